@@ -1,0 +1,17 @@
+pub mod Sets
+pub mod Net
+pub mod Header
+pub mod Tries
+pub mod Run
+pub mod Table
+pub mod Refusals
+pub mod Promise
+pub mod Walk
+pub mod Fields
+pub mod Print
+pub mod Look
+pub mod RunTable
+pub mod RunPair
+pub mod RunWalk
+pub mod RunFields
+pub mod Cases
