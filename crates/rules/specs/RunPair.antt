@@ -1,6 +1,6 @@
 -- The twins of the operations on a pair. Nothing here has to be believed (see Run). Assumes nothing.
 --
---   lookPair, look7, look8, look9                     refusals 1 to 6, and the later ones
+--   lookApart, lookPair, look7, look8, look9          refusals 4 to 6, 1 to 6, and the later ones
 --   measureOf, maskAnswer, testOf, issueAnswer        the answers of distance, mask issue, header test, header issue
 --   maskMemory, issueMemory                           what the lent output then holds
 use Prim.Native.Nat.{ℕ, _-_, _^_}
@@ -43,9 +43,11 @@ module _ (z : Sizes) (t : List ℕ) (a d : ℕ) where
   unfoldable pub passesOf : List ℕ → Bool
   passesOf ws = eqb (length ws) distance && chooses (farOf z t) (switches t) mask (2 ^ home z t a) ws
 
-  -- the rows 4 to 6, and 7, 8 and 9
+  abbrev pub lookApart : List Looked → List Looked
+  lookApart ls = (4, when (not (attached z t a && attached z t d))) ∷ (5, when (eqb a d)) ∷ (6, when (ltb (switches t) distance)) ∷ ls
+
   abbrev pub lookPair : List Looked → List Looked
-  lookPair ls = lookTable z t ++ ((4, when (not (attached z t a && attached z t d))) ∷ (5, when (eqb a d)) ∷ (6, when (ltb (switches t) distance)) ∷ ls)
+  lookPair ls = lookTable z t ++ lookApart ls
 
   abbrev pub look7 : Looked
   look7 = (7, when (ltb mostHops distance))
