@@ -20,7 +20,7 @@ use Rattle.rules.proofs.Tables.{leads-node, far-inside, far-somewhere}
 
 -- ---- the tests
 
-is-entry : (a : ℕ) (x : Entry) → T (isEntryOf a x) ↔ (x ≡ Node a)
+pub is-entry : (a : ℕ) (x : Entry) → T (isEntryOf a x) ↔ (x ≡ Node a)
 unfolding isEntryOf
 is-entry a (Switch s) = (λ h. absurd h, λ h. let q : _≡_ {A = ℕ} 0 1 = cc in absurd (omega arith))
 is-entry a (Node b) = (λ h. ap Node (eqb→eq b a h), λ h. eq-T b a cc)
@@ -33,14 +33,14 @@ is-node a (switch s) = (λ h. absurd h, λ h. let q : _≡_ {A = ℕ} 0 1 = cc i
 is-node a (node n) = (λ h. ap node (eqb→eq n a h), λ h. eq-T n a cc)
 is-node a nothing = (λ h. absurd h, λ h. let q : _≡_ {A = ℕ} 0 1 = cc in absurd (omega arith))
 
-same-node : (x y : Entry) → T (sameNode x y) → (a : ℕ) × (x ≡ Node a) × (y ≡ Node a)
+pub same-node : (x y : Entry) → T (sameNode x y) → (a : ℕ) × (x ≡ Node a) × (y ≡ Node a)
 unfolding sameNode
 same-node x (Switch s) h = absurd h
 same-node x (Node a) h = (a, is-entry a x .0 h, refl)
 same-node x Nothing h = absurd h
 same-node x Bad h = absurd h
 
-node-same : (x y : Entry) (a : ℕ) → x ≡ Node a → y ≡ Node a → T (sameNode x y)
+pub node-same : (x y : Entry) (a : ℕ) → x ≡ Node a → y ≡ Node a → T (sameNode x y)
 unfolding sameNode
 node-same x (Switch s) a h k = let q : _≡_ {A = ℕ} 0 1 = cc in absurd (omega arith)
 node-same x (Node b) a h k = is-entry b x .1 cc

@@ -2,7 +2,7 @@
 use Prim.Native.Nat.{ℕ, zero, _<_}
 use native.Mathlib.Nat.{le-antisymm}
 use native.Mathlib.Omega.{arith}
-use mathlib.Core.Path.{_≡_, refl, sym, _∙_, subst}
+use mathlib.Core.Path.{_≡_, refl, sym, ap, _∙_, subst}
 use mathlib.Core.Logic.{inl, inr, ⊎-elim, _↔_}
 use mathlib.Core.Bool.{Bool, true, false, cond}
 use mathlib.Core.List.{List, [], _∷_, _++_}
@@ -10,10 +10,11 @@ use mathlib.Core.Option.{Option, none, some}
 use lib.Dec.{T, eqb, ltb, ltb→lt, lt→ltb, eqb→eq, eqb-refl}
 use lib.ListN.{length}
 use Rattle.rules.specs.declared.Judgement.{Judgement}
+use Rattle.rules.specs.declared.Answer.{Answer}
 use Rattle.rules.specs.Sets.{least}
 use Rattle.rules.specs.Refusals.{Refusal, Says, plain, Lowest, lowest, tooShort}
-use Rattle.rules.specs.Look.{Looked, pick, first, when, leastAt, accepted}
-use Rattle.rules.proofs.SetLaws.{not-lt, T-true, Least, least-is, least-under}
+use Rattle.rules.specs.Look.{Looked, pick, first, when, leastAt, accepted, answered}
+use Rattle.rules.proofs.SetLaws.{not-lt, T-true, true-T, same-T, eq-T, Least, least-is, least-under}
 
 -- what a judgement says
 abbrev pub Told : List Refusal → Judgement → Type 0
@@ -117,6 +118,33 @@ module _ (k : ℕ) (P : ℕ → Type 0) (n : ℕ) (f : ℕ → Bool) (e : (i : �
 pub short-decides : (needs : ℕ) (out : List ℕ) → Decides (tooShort needs out) (when (ltb (length out) needs))
 short-decides needs out = plain-decides 8 (length out < needs) (ltb (length out) needs) (ltb→lt (length out) needs, lt→ltb (length out) needs)
 
+-- ---- one list of refusals after another
+
+-- no number of the list is 0
+unfoldable pub Numbered : List Looked → Type 0
+Numbered [] = Unit {0}
+Numbered (l ∷ ls) = (zero < l .0) × Numbered ls
+
+-- what the first list gives stands
+pub first-stop : (ls ms : List Looked) → ¬ (first ls .number ≡ 0) → first (ls ++ ms) ≡ first ls
+unfolding first pick
+first-stop [] ms h = absurd (h refl)
+first-stop (l ∷ ls) ms h = at (l .1) h (first-stop ls ms)
+  where
+    at : (o : Option ℕ) → ¬ (pick (l .0) o (first ls) .number ≡ 0) → (¬ (first ls .number ≡ 0) → first (ls ++ ms) ≡ first ls) → pick (l .0) o (first (ls ++ ms)) ≡ pick (l .0) o (first ls)
+    at none k ih = ih k
+    at (some q) k ih = refl
+
+-- and where it gives none, the second goes on
+pub first-past : (ls ms : List Looked) → Numbered ls → first ls .number ≡ 0 → first (ls ++ ms) ≡ first ms
+unfolding first pick Numbered
+first-past [] ms n h = refl
+first-past (l ∷ ls) ms n h = at (l .1) h (first-past ls ms (n .1))
+  where
+    at : (o : Option ℕ) → pick (l .0) o (first ls) .number ≡ 0 → (first ls .number ≡ 0 → first (ls ++ ms) ≡ first ms) → pick (l .0) o (first (ls ++ ms)) ≡ first ms
+    at none k ih = ih k
+    at (some q) k ih = let e = n .0 in absurd (omega arith)
+
 -- ---- accepted or refused
 
 pub accepted-zero : (j : Judgement) → accepted j ≡ true → j .number ≡ 0
@@ -126,3 +154,35 @@ accepted-zero j e = eqb→eq (j .number) 0 (T-true e)
 pub refused-not : (j : Judgement) → accepted j ≡ false → ¬ (j .number ≡ 0)
 unfolding accepted
 refused-not j e h = subst T e (subst (λ (n : ℕ). T (eqb n 0)) (sym h) (eqb-refl 0))
+
+-- the values of an answer that is accepted, and the zeros of one that is refused
+pub answered-accepted : (j : Judgement) (n c k : ℕ) → j .number ≡ 0 → answered j n c k ≡ record { number = j .number; place = j .place; distance = n; count = c; tries = k }
+unfolding answered accepted
+answered-accepted j n c k h =
+    ap (λ (b : Bool). cond {A = Answer} b (record { number = j .number; place = j .place; distance = n; count = c; tries = k }) (record { number = j .number; place = j .place; distance = 0; count = 0; tries = 0 }))
+    (true-T (eqb (j .number) 0) (eq-T (j .number) 0 h))
+
+pub answered-refused : (j : Judgement) (n c k : ℕ) → ¬ (j .number ≡ 0) → answered j n c k ≡ record { number = j .number; place = j .place; distance = 0; count = 0; tries = 0 }
+unfolding answered accepted
+answered-refused j n c k h =
+    ap (λ (b : Bool). cond {A = Answer} b (record { number = j .number; place = j .place; distance = n; count = c; tries = k }) (record { number = j .number; place = j .place; distance = 0; count = 0; tries = 0 }))
+    (same-T (eqb (j .number) 0) false (λ e. h (eqb→eq (j .number) 0 e)) (λ e. absurd e))
+
+-- and what a memory that depends on it holds
+pub kept-accepted : (j : Judgement) (o out : List ℕ) → j .number ≡ 0 → cond (accepted j) o out ≡ o
+unfolding accepted
+kept-accepted j o out h = ap (λ (b : Bool). cond b o out) (true-T (eqb (j .number) 0) (eq-T (j .number) 0 h))
+
+pub kept-refused : (j : Judgement) (o out : List ℕ) → ¬ (j .number ≡ 0) → cond (accepted j) o out ≡ out
+unfolding accepted
+kept-refused j o out h = ap (λ (b : Bool). cond b o out) (same-T (eqb (j .number) 0) false (λ e. h (eqb→eq (j .number) 0 e)) (λ e. absurd e))
+
+-- ---- one row that has no place
+
+pub first-none : (k : ℕ) (b : Bool) (ls : List Looked) → b ≡ false → first ((k, when b) ∷ ls) ≡ first ls
+unfolding first when pick
+first-none k b ls e = ap (λ (c : Bool). pick k (when c) (first ls)) e
+
+pub first-some : (k : ℕ) (b : Bool) (ls : List Looked) → b ≡ true → first ((k, when b) ∷ ls) ≡ record { number = k; place = 0 }
+unfolding first when pick
+first-some k b ls e = ap (λ (c : Bool). pick k (when c) (first ls)) e

@@ -4,14 +4,14 @@ use Prim.Native.Nat.{ℕ, zero, suc, _+_, _-_, _/_, _≤_, _<_, zero-le}
 use native.Mathlib.Nat.{not-suc-le-zero, le-of-suc-le-suc}
 use native.Mathlib.Omega.{arith}
 use mathlib.Core.Path.{_≡_, refl, sym, ap, _∙_, subst}
-use mathlib.Core.Logic.{_↔_, ⊎-elim}
+use mathlib.Core.Logic.{⊎-elim}
 use mathlib.Core.Bool.{Bool}
 use mathlib.Core.List.{List, [], _∷_}
 use borrow.Author.Tests.{lt-ltb, le-ltb, le-leb, lt-leb, eq-eqb, ne-eqb}
 use borrow.Author.Count.{below-more}
 use denote.Enum.Declared.{tagOf}
 use types.Run.{OneOf}
-use lib.Dec.{T, eqb→eq, eqb-refl}
+use lib.Dec.{T}
 use lib.ListN.{length, getD}
 use Rattle.rules.proofs.Entry.{the-type}
 use Rattle.rules.specs.declared.Entry.{Entry}
@@ -19,8 +19,9 @@ use Rattle.rules.specs.declared.Entry.the-variants.{Switch, Node, Nothing, Bad}
 use Rattle.rules.specs.Sets.{least}
 use Rattle.rules.specs.Table.{house, noLink, kind, kindAt, switches}
 use Rattle.rules.specs.RunTable.{isBad, isEntryOf, sameNode, badAt, again}
-use Rattle.rules.proofs.SetLaws.{least-is, least-one, any-yes, any-some, eq-T}
+use Rattle.rules.proofs.SetLaws.{least-is, least-one, any-yes, any-some}
 use Rattle.rules.proofs.Tables.{kind-node}
+use Rattle.rules.proofs.Homes.{is-entry, same-node, node-same}
 
 -- ---- an entry by its range
 
@@ -79,27 +80,9 @@ not-node (Node b) a h q = ⊎-elim (λ k. omega arith) (⊎-elim (λ k. omega ar
 not-node Nothing a h q = let z : _≡_ {A = ℕ} 0 1 = cc in omega arith
 not-node Bad a h q = let z : _≡_ {A = ℕ} 0 1 = cc in omega arith
 
-is-entry : (a : ℕ) (x : Entry) → T (isEntryOf a x) ↔ (x ≡ Node a)
-unfolding isEntryOf
-is-entry a (Switch s) = (λ h. absurd h, λ q. let z : _≡_ {A = ℕ} 0 1 = cc in absurd (omega arith))
-is-entry a (Node b) = (λ h. ap Node (eqb→eq b a h), λ q. eq-T b a (cc))
-is-entry a Nothing = (λ h. absurd h, λ q. let z : _≡_ {A = ℕ} 0 1 = cc in absurd (omega arith))
-is-entry a Bad = (λ h. absurd h, λ q. let z : _≡_ {A = ℕ} 0 1 = cc in absurd (omega arith))
-
-same-node : (x y : Entry) → T (sameNode x y) → (a : ℕ) × (x ≡ Node a) × (y ≡ Node a)
-unfolding sameNode
-same-node x (Switch s) h = absurd h
-same-node x (Node a) h = (a, is-entry a x .0 h, refl)
-same-node x Nothing h = absurd h
-same-node x Bad h = absurd h
-
-node-same : (a : ℕ) → T (sameNode (Node a) (Node a))
-unfolding sameNode isEntryOf
-node-same a = eqb-refl a
-
 -- ---- what is read at an index
 
-getD-inside : (t : List ℕ) (i a b : ℕ) → i < length t → getD t i a ≡ getD t i b
+pub getD-inside : (t : List ℕ) (i a b : ℕ) → i < length t → getD t i a ≡ getD t i b
 getD-inside [] i a b l = absurd (not-suc-le-zero l)
 getD-inside (x ∷ t) zero a b l = refl
 getD-inside (x ∷ t) (suc i) a b l = getD-inside t i a b (le-of-suc-le-suc l)
@@ -108,12 +91,12 @@ getD-inside (x ∷ t) (suc i) a b l = getD-inside t i a b (le-of-suc-le-suc l)
 abbrev pub Read : List ℕ → ℕ → Entry → Type 0
 Read t i e = e ≡ kind house (length t / 8) (getD t i 0)
 
-kind-at : (t : List ℕ) (i : ℕ) → i < length t → kindAt house t i ≡ kind house (length t / 8) (getD t i 0)
+pub kind-at : (t : List ℕ) (i : ℕ) → i < length t → kindAt house t i ≡ kind house (length t / 8) (getD t i 0)
 unfolding kindAt switches
 kind-at t i l = ap (kind house (length t / 8)) (getD-inside t i noLink 0 l)
 
 module _ (t : List ℕ) (i : ℕ) (inside : i < length t) where
-  kind-read : kindAt house t i ≡ kind house (length t / 8) (getD t i 0)
+  pub kind-read : kindAt house t i ≡ kind house (length t / 8) (getD t i 0)
   kind-read = kind-at t i inside
 
   -- ---- an entry of no kind
@@ -146,7 +129,7 @@ module _ (t : List ℕ) (i : ℕ) (inside : i < length t) where
       let a = is-node e h in
       let here : kindAt house t i ≡ Node (a .0) = kind-read ∙ sym r ∙ a .1 in
       let there : kindAt house t k ≡ Node (a .0) = kind-at t k (omega arith) ∙ ap (kind house (length t / 8)) q ∙ sym r ∙ a .1 in
-      any-yes i (λ j. sameNode (kindAt house t j) (kindAt house t i)) k l (rw (here, there) (node-same (a .0)))
+      any-yes i (λ j. sameNode (kindAt house t j) (kindAt house t i)) k l (node-same (kindAt house t k) (kindAt house t i) (a .0) there here)
 
   pub again-not : ((k : ℕ) → k < i → getD t k 0 ≡ getD t i 0 → ⊥) → T (again house t i) → ⊥
   unfolding again

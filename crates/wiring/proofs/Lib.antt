@@ -1,2 +1,3 @@
 pub mod Laws
 pub mod Judging
+pub mod Found
