@@ -1,14 +1,13 @@
 -- What the loops of the field reader rest on: a count of fields that all stand whole stays within the input, the first that fails is the
 -- least, and entries stored one by one over the start of a table are the list of them. Assumes nothing.
 use Prim.Native.Nat.{ℕ, _+_, _*_, _/_, _%_, _≤_, _<_, zero-le}
-use native.Mathlib.Nat.{zero-add, le-antisymm}
-use native.Mathlib.Numerals.{add-one}
+use native.Mathlib.Nat.{le-antisymm}
 use native.Mathlib.Omega.{arith}
 use mathlib.Core.Path.{_≡_, refl, sym, ap, _∙_, subst, subst₂}
 use mathlib.Core.Bool.{true, false, not}
 use mathlib.Core.List.{List, _++_}
 use lib.ListN.{length, getD, take, drop, set, length-set}
-use lib.Seq.{paste-suc, take-all}
+use lib.Seq.{take-all}
 use lib.Dec.{T, eqb, T-not, not-T, eqb→eq}
 use borrow.Author.Tests.{lt-ltb, le-ltb}
 use borrow.Author.Count.{below-none, below-more}
@@ -21,7 +20,7 @@ use Rattle.rules.specs.declared.FieldAnswer.{FieldAnswer}
 use Rattle.rules.proofs.SetLaws.{T-true, same-T, eq-T, least-is, least-one}
 use Rattle.rules.proofs.FieldLaws.{in-field, upto-is, upto-rows, upto-within, entries-length}
 use Rattle.rules.proofs.FieldPromises.{filled-met}
-use Rattle.rules.proofs.Lists.{getD-tabulate}
+use Rattle.rules.proofs.Lists.{front-more, getD-tabulate}
 
 -- ---- the test of a field
 
@@ -71,9 +70,6 @@ pairs-end b s e p h stop =
 
 -- ---- entries stored one by one
 
-stored-more : (e o : List ℕ) (i : ℕ) → i < length o → i < length e → set (take i e ++ drop i o) i (getD e i 0) ≡ take (i + 1) e ++ drop (i + 1) o
-stored-more e o i l m = rw add-one (simp zero-add at (paste-suc o 0 e i 0 (omega arith) m))
-
 -- the first i of the entries of k fields stand over the start of what the table held
 pub record Filling (b out : List ℕ) (k : ℕ) (o : List ℕ) (i : ℕ) : Type 0 where
   pub few : i ≤ 8 * k
@@ -88,7 +84,7 @@ unfolding entries
 filling-more b out k o i x h l m e =
     let n : i < length (entries b k) = subst (λ (n : ℕ). i < n) (sym (entries-length b k)) l in
     let v : x ≡ getD (entries b k) i 0 = e ∙ sym (getD-tabulate (8 * k) (λ i. two b (19 * (i / 8) + 3 + 2 * (i % 8))) i 0 l) in
-    record { few = omega arith; long = length-set o i x ∙ h .long; is = ap (λ (p : List ℕ). set p i x) (h .is) ∙ ap (set (take i (entries b k) ++ drop i out) i) v ∙ stored-more (entries b k) out i (omega arith) n }
+    record { few = omega arith; long = length-set o i x ∙ h .long; is = ap (λ (p : List ℕ). set p i x) (h .is) ∙ ap (set (take i (entries b k) ++ drop i out) i) v ∙ front-more (entries b k) out i (omega arith) n }
 
 pub filling-end : (b out : List ℕ) (k : ℕ) (o : List ℕ) (i : ℕ) → Filling b out k o i → 8 * k ≤ i → o ≡ entries b k ++ drop (8 * k) out
 filling-end b out k o i h l =

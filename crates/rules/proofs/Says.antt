@@ -5,7 +5,7 @@ use native.Mathlib.Omega.{arith}
 use mathlib.Core.Path.{_≡_, refl, sym, ap, _∙_, subst}
 use mathlib.Core.Logic.{inl, inr, ⊎-elim, _↔_}
 use mathlib.Core.Bool.{Bool, true, false, cond}
-use mathlib.Core.List.{List, [], _∷_, _++_}
+use mathlib.Core.List.{List, [], _∷_, _++_, append-nil}
 use mathlib.Core.Option.{Option, none, some}
 use lib.Dec.{T, eqb, ltb, ltb→lt, lt→ltb, eqb→eq, eqb-refl}
 use lib.ListN.{length}
@@ -145,6 +145,10 @@ first-past (l ∷ ls) ms n h = at (l .1) h (first-past ls ms (n .1))
     at none k ih = ih k
     at (some q) k ih = let e = n .0 in absurd (omega arith)
 
+pub first-zero : (ls : List Looked) → Numbered ls → first ls .number ≡ 0 → first ls ≡ record { number = 0; place = 0 }
+unfolding first
+first-zero ls n h = sym (ap first (append-nil ls)) ∙ first-past ls [] n h
+
 -- ---- accepted or refused
 
 pub accepted-zero : (j : Judgement) → accepted j ≡ true → j .number ≡ 0
@@ -155,27 +159,45 @@ pub refused-not : (j : Judgement) → accepted j ≡ false → ¬ (j .number ≡
 unfolding accepted
 refused-not j e h = subst T e (subst (λ (n : ℕ). T (eqb n 0)) (sym h) (eqb-refl 0))
 
+pub refused-false : (j : Judgement) → ¬ (j .number ≡ 0) → accepted j ≡ false
+unfolding accepted
+refused-false j h = same-T (eqb (j .number) 0) false (λ e. h (eqb→eq (j .number) 0 e)) (λ e. absurd e)
+
+pub accepted-true : (j : Judgement) → j .number ≡ 0 → accepted j ≡ true
+unfolding accepted
+accepted-true j h = true-T (eqb (j .number) 0) (eq-T (j .number) 0 h)
+
 -- the values of an answer that is accepted, and the zeros of one that is refused
 pub answered-accepted : (j : Judgement) (n c k : ℕ) → j .number ≡ 0 → answered j n c k ≡ record { number = j .number; place = j .place; distance = n; count = c; tries = k }
-unfolding answered accepted
+unfolding answered
 answered-accepted j n c k h =
     ap (λ (b : Bool). cond {A = Answer} b (record { number = j .number; place = j .place; distance = n; count = c; tries = k }) (record { number = j .number; place = j .place; distance = 0; count = 0; tries = 0 }))
-    (true-T (eqb (j .number) 0) (eq-T (j .number) 0 h))
+    (accepted-true j h)
 
 pub answered-refused : (j : Judgement) (n c k : ℕ) → ¬ (j .number ≡ 0) → answered j n c k ≡ record { number = j .number; place = j .place; distance = 0; count = 0; tries = 0 }
-unfolding answered accepted
+unfolding answered
 answered-refused j n c k h =
     ap (λ (b : Bool). cond {A = Answer} b (record { number = j .number; place = j .place; distance = n; count = c; tries = k }) (record { number = j .number; place = j .place; distance = 0; count = 0; tries = 0 }))
-    (same-T (eqb (j .number) 0) false (λ e. h (eqb→eq (j .number) 0 e)) (λ e. absurd e))
+    (refused-false j h)
+
+-- an answer with no count and no tries, where the place is 0 too
+pub answered-zero : (j : Judgement) (n : ℕ) → j .place ≡ 0 → j .number ≡ 0 → answered j n 0 0 ≡ record { number = 0; place = 0; distance = n; count = 0; tries = 0 }
+answered-zero j n p h = answered-accepted j n 0 0 h ∙ (λ i. record { number = h i; place = p i; distance = n; count = 0; tries = 0 })
+
+pub answered-number : (j : Judgement) (n c k : ℕ) → answered j n c k .number ≡ j .number
+unfolding answered
+answered-number j n c k = at (accepted j)
+  where
+    at : (b : Bool) → cond {A = Answer} b (record { number = j .number; place = j .place; distance = n; count = c; tries = k }) (record { number = j .number; place = j .place; distance = 0; count = 0; tries = 0 }) .number ≡ j .number
+    at true = refl
+    at false = refl
 
 -- and what a memory that depends on it holds
 pub kept-accepted : (j : Judgement) (o out : List ℕ) → j .number ≡ 0 → cond (accepted j) o out ≡ o
-unfolding accepted
-kept-accepted j o out h = ap (λ (b : Bool). cond b o out) (true-T (eqb (j .number) 0) (eq-T (j .number) 0 h))
+kept-accepted j o out h = ap (λ (b : Bool). cond b o out) (accepted-true j h)
 
 pub kept-refused : (j : Judgement) (o out : List ℕ) → ¬ (j .number ≡ 0) → cond (accepted j) o out ≡ out
-unfolding accepted
-kept-refused j o out h = ap (λ (b : Bool). cond b o out) (same-T (eqb (j .number) 0) false (λ e. h (eqb→eq (j .number) 0 e)) (λ e. absurd e))
+kept-refused j o out h = ap (λ (b : Bool). cond b o out) (refused-false j h)
 
 -- ---- one row that has no place
 

@@ -1,0 +1,4 @@
+pub mod Search
+pub mod Onward
+pub mod Pairs
+pub mod Inner
