@@ -1,0 +1,13 @@
+pub mod ChoiceLaws
+pub mod LastStage
+pub mod LeafLaws
+pub mod ScanLaws
+pub mod Searching
+pub mod StageLaws
+pub mod StoreLaws
+pub mod WidestLaws
+pub mod Widths
+pub mod IssueLaws
+pub mod Same
+pub mod Opened
+pub mod Issued

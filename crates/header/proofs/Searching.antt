@@ -1,0 +1,115 @@
+-- The search as the code of `widest` makes it, over its values: what holds before the loop, and one law for each way through a turn.
+-- Assumes nothing.
+use Prim.Native.Nat.{ℕ, suc, _+_, _-_, _^_, _≤_, _<_}
+use native.Mathlib.Omega.{arith}
+use mathlib.Core.Path.{_≡_, sym, ap, ap₂, _∙_, subst}
+use mathlib.Core.Bool.{true, false}
+use mathlib.Core.List.{List}
+use lib.ListN.{getD}
+use Rattle.rules.specs.Net.{Far}
+use Rattle.rules.specs.Table.{house, switches, farOf}
+use Rattle.rules.specs.Tries.{common, reach, reaches}
+use Rattle.rules.proofs.SetLaws.{setOf-lt}
+use Rattle.rules.proofs.Tables.{farOf-wired}
+use Rattle.header.specs.declared.Found.{Found}
+use Rattle.header.specs.Found.{Searches, Stages, foundOf, lastFound, beyondFound, widerFound, nextChoice, singles, joined}
+use Rattle.header.proofs.LeafLaws.{common-size, joined-reach}
+use Rattle.header.proofs.LastStage.{found-last}
+use Rattle.header.proofs.Widths.{best-fine, found-few}
+use Rattle.header.proofs.WidestLaws.{Turn, after, cost, rest, whole, whole-is, turn-start, full-at, over-at, take-at, end-at, tried}
+
+module _ (t ms : List ℕ) where
+  abbrev far : ℕ → ℕ → Far
+  far = farOf house t
+
+  abbrev mask : ℕ → ℕ
+  mask s = getD ms s 0
+
+  ports-common : (m ports : ℕ) → Stages t m → ports ≡ common 64 mask m → ports ≡ common (switches t) mask m
+  unfolding switches
+  ports-common m ports s e = e ∙ common-size (switches t) mask m (s .inside) (let l = s .short in omega arith)
+
+  module _ (m left budget ports : ℕ) where
+    -- what is known of the set before the loop
+    pub record Known (sets : List ℕ) : Type 0 where
+      pub searches : Searches t m left
+      pub deep : left ≡ 1 → ⊥
+      pub common-ports : ports ≡ common 64 mask m
+      pub port-sets : sets ≡ singles far (switches t) m
+
+    abbrev pub Search : Found → ℕ → ℕ → Type 0
+    Search h k w = Turn ports (after far (switches t) mask m left) (cost far (switches t) mask m left) budget h k w
+
+    pub last-stage : Searches t m left → ports ≡ common 64 mask m → left ≡ 1 → (r : Found) → r ≡ lastFound ports
+        → r ≡ foundOf far (switches t) mask m left budget
+    last-stage s e l r q =
+        q ∙ ap lastFound (ports-common m ports (s .stages) e) ∙ sym (found-last far (switches t) mask m budget)
+        ∙ ap (λ (x : ℕ). foundOf far (switches t) mask m x budget) (sym l)
+
+    pub start : (r : Found) (w : ℕ) → r ≡ lastFound 0 → w ≡ nextChoice 1 ports → Search r 0 w
+    start r w p q =
+        subst (λ (x : ℕ). Search r 0 x) (sym q)
+        (subst (λ (x : Found). Search x 0 (nextChoice 1 ports)) (sym p)
+        (turn-start ports (after far (switches t) mask m left) (cost far (switches t) mask m left) budget))
+
+    module _ (sets : List ℕ) (known : Known sets) where
+      is-whole : whole ports (after far (switches t) mask m left) (cost far (switches t) mask m left) budget ≡ foundOf far (switches t) mask m left budget
+      is-whole =
+          whole-is far (switches t) mask m left ports budget (ports-common m ports (known .searches .stages) (known .common-ports))
+          (let d = known .deep in let o = known .searches .some in omega arith)
+
+      pub ended : (h : Found) (k w : ℕ) → Search h k w → 256 ≤ w → tried h k ≡ foundOf far (switches t) mask m left budget
+      ended h k w u l = end-at ports (after far (switches t) mask m left) (cost far (switches t) mask m left) budget h k w u l ∙ is-whole
+
+      pub full : (h : Found) (k w : ℕ) → Search h k w → w < 256 → k ≡ budget → (r : Found) → r ≡ beyondFound → r ≡ foundOf far (switches t) mask m left budget
+      full h k w u l e r q = q ∙ full-at ports (after far (switches t) mask m left) (cost far (switches t) mask m left) budget h k w u l e ∙ is-whole
+
+      module _ (w word set : ℕ) (same : word ≡ w) (join : set ≡ joined sets word 8) where
+        is-reach : set ≡ reach far (switches t) m w
+        is-reach =
+            join ∙ ap (λ (x : List ℕ). joined x word 8) (known .port-sets) ∙ joined-reach far (switches t) (farOf-wired house t) m word
+            ∙ ap (reach far (switches t) m) same
+
+        -- the set reached is searched for a word less
+        pub deeper : Searches t set (left - 1)
+        unfolding reach
+        deeper =
+            let s = known .searches in
+            let d = known .deep in
+            record {
+              stages = record {
+                short = s .stages .short;
+                inside = subst (λ (x : ℕ). x < 2 ^ switches t) (sym is-reach) (setOf-lt (switches t) (reaches far (switches t) m (λ _. w)));
+              };
+              some = let o = s .some in omega arith;
+              few = let f = s .few in omega arith;
+            }
+
+        module _ (k : ℕ) (r : Found) (found : r ≡ foundOf far (switches t) mask set (left - 1) (budget - k - 1)) where
+          is-rest : r ≡ rest ports (after far (switches t) mask m left) (cost far (switches t) mask m left) (budget - k - 1) w
+          unfolding foundOf
+          is-rest = found ∙ ap (λ (x : ℕ). foundOf far (switches t) mask x (left - 1) (budget - k - 1)) is-reach
+
+          pub fits : (1 ≤ left) × (left ≤ 8) × (r .count ≤ 2097152)
+          fits =
+              let s = known .searches in (
+                s .some,
+                s .few,
+                subst (λ (x : Found). x .count ≤ 2097152) (sym found)
+                    (found-few far (switches t) mask set (left - 1) (budget - k - 1) (let f = s .few in omega arith)),
+              )
+
+          module _ (h : Found) (u : Search h k w) (l : w < 256) (room : k ≡ budget → ⊥) where
+            pub beyond : r .over ≡ true → (g : Found) → g ≡ beyondFound → g ≡ foundOf far (switches t) mask m left budget
+            beyond e g q =
+                q ∙ over-at ports (after far (switches t) mask m left) (cost far (switches t) mask m left) budget h k w u l room
+                (sym (ap (λ (x : Found). x .over) is-rest) ∙ e) ∙ is-whole
+
+            pub taken : r .over ≡ false → (g : Found) (v : ℕ) → g ≡ widerFound h r word left → v ≡ nextChoice (w + 1) ports → Search g (k + 1 + r .tries) v
+            taken e g v p q =
+                let s = known .searches in
+                let i : suc (left - 1) ≡ left = let o = s .some in omega arith in
+                subst (λ (x : Found). Search x (k + 1 + r .tries) v) (ap₂ (λ (x y : ℕ). widerFound h r x y) (sym same) i ∙ sym p)
+                (subst (λ (x : ℕ). Search (widerFound h r w (suc (left - 1))) (k + 1 + r .tries) x) (sym q)
+                (take-at ports (after far (switches t) mask m left) (cost far (switches t) mask m left) budget h k w u l room
+                (left - 1) (let f = s .few in let o = s .some in omega arith) (best-fine far (switches t) mask (left - 1) (reach far (switches t) m w)) r is-rest e))

@@ -1,0 +1,355 @@
+// The header: the test of any header, the search for the widest one, and its issue. Sets of switches are 64-bit numbers.
+use rules::Answer;
+use rules::Entry;
+use rules::TestAnswer;
+use rules::Verdict;
+use ways::mask_pair;
+use wiring::entry;
+use wiring::judge;
+ghost use mathlib.Core.Path.{_≡_};
+ghost use Prim.Native.Nat.{_-_, _≤_, _<_};
+ghost use mathlib.Core.List.{_++_};
+ghost use lib.ListN.{length, getD, drop, replicate};
+ghost use Rattle.rules.specs.Table.{house, switches, farOf};
+ghost use Rattle.rules.specs.Tries.{common, chooses};
+ghost use Rattle.rules.specs.Promise.{Tested, Issued};
+ghost use Rattle.header.specs.Found.{nextChoice, Searches, Stages, singles, withLinks, joined, foundOf, lastFound, widerFound, beyondFound};
+ghost use Rattle.header.specs.Pairs.{issuePair, issuePairMemory, testPair};
+
+// The widest header found: its words at the end of the eight, the number of lists it permits, 0 where there is none, and the tries; or
+// that the tries would pass the budget.
+struct Found {
+    words: [u8; 8],
+    count: u32,
+    tries: u32,
+    over: bool,
+}
+
+// Issues the widest header of a pair into the first eight bytes of out.
+pub fn issue(table: &[u16], source: u64, target: u64, out: &mut [u8]) -> Answer
+    ensures { λ r. ⌜ Issued house (now (table .entry)) source target (now (out .entry)) r (now (out .exit)) ⌝ }
+{
+    let judged = judge(table);
+    if judged.number != 0 {
+        return refused(judged.number, judged.place);
+    }
+    issue_pair(table, source, target, out)
+}
+
+// Header issue in a table that has been judged; on any other table it is what issuePair says.
+pub fn issue_pair(table: &[u16], source: u64, target: u64, out: &mut [u8]) -> Answer
+    ensures { λ r. ⌜ (r ≡ issuePair house (now (table .entry)) source target (now (out .entry))) × (now (out .exit) ≡ issuePairMemory house (now (table .entry)) source target (now (out .entry))) ⌝ }
+{
+    let pair = mask_pair(table, source, target);
+    let answer = pair.answer;
+    if answer.number != 0 {
+        return answer;
+    }
+    if out.len() < 8 {
+        return refused(8, 0);
+    }
+    let masks = pair.masks;
+    let home = pair.home;
+    let n = wide(answer.distance);
+    let found = widest(table, &masks, 1u64 << home, n, 65536);
+    if found.over {
+        return refused(9, 0);
+    }
+    let words = found.words;
+    write(words, n, out);
+    Answer {
+        number: 0,
+        place: 0,
+        distance: answer.distance,
+        count: found.count,
+        tries: found.tries,
+    }
+}
+
+// The header test of a pair.
+pub fn test(table: &[u16], source: u64, target: u64, header: &[u8]) -> TestAnswer
+    ensures { λ r. ⌜ Tested house (now (table .entry)) source target (now (header .entry)) r ⌝ }
+{
+    let judged = judge(table);
+    if judged.number != 0 {
+        return said(refused(judged.number, judged.place), Verdict::Neither);
+    }
+    test_pair(table, source, target, header)
+}
+
+// The header test in a table that has been judged; on any other table it is what testPair says.
+pub fn test_pair(table: &[u16], source: u64, target: u64, header: &[u8]) -> TestAnswer
+    ensures { λ r. ⌜ r ≡ testPair house (now (table .entry)) source target (now (header .entry)) ⌝ }
+{
+    let pair = mask_pair(table, source, target);
+    let answer = pair.answer;
+    if answer.number != 0 {
+        return said(answer, Verdict::Neither);
+    }
+    if header.len() != wide(answer.distance) {
+        return said(refused(0, 0), Verdict::No);
+    }
+    let masks = pair.masks;
+    let home = pair.home;
+    if stages_pass(table, &masks, 1u64 << home, header) {
+        return said(refused(0, 0), Verdict::Yes);
+    }
+    said(refused(0, 0), Verdict::No)
+}
+
+fn refused(number: u8, place: usize) -> Answer
+    ensures { λ r. ⌜ r ≡ record { number = number; place = place; distance = 0; count = 0; tries = 0 } ⌝ }
+{
+    Answer {
+        number,
+        place,
+        distance: 0,
+        count: 0,
+        tries: 0,
+    }
+}
+
+fn said(answer: Answer, says: Verdict) -> TestAnswer
+    ensures { λ r. ⌜ r ≡ record { answer = answer; says = says } ⌝ }
+{
+    TestAnswer { answer, says }
+}
+
+// Whether each word is a nonempty choice among the ports common to the masks of the set it meets.
+fn stages_pass(table: &[u16], masks: &[u8; 64], start: u64, header: &[u8]) -> bool
+    requires { ⌜ Stages (now table) start ⌝ }
+    ensures { λ r. ⌜ r ≡ chooses (farOf house (now (table .entry))) (switches (now (table .entry))) (λ s. getD (now (masks .entry)) s 0) start (now (header .entry)) ⌝ }
+{
+    let mut set = start;
+    let mut i = 0;
+    while i < header.len() {
+        let w = header[i];
+        if w == 0 {
+            return false;
+        }
+        if w & common_of(masks, set) != w {
+            return false;
+        }
+        let sets = by_port(table, set);
+        set = join(&sets, w);
+        i += 1;
+    }
+    true
+}
+
+// The widest header with `left` words from a set of switches: each nonempty choice among the common ports is tried in rising order, and only a
+// strictly wider header replaces the one kept.
+fn widest(table: &[u16], masks: &[u8; 64], set: u64, left: usize, budget: u32) -> Found
+    requires { ⌜ Searches (now table) set left ⌝ }
+    ensures { λ r. ⌜ r ≡ foundOf (farOf house (now (table .entry))) (switches (now (table .entry))) (λ s. getD (now (masks .entry)) s 0) set left budget ⌝ }
+{
+    let ports = common_of(masks, set);
+    if left == 1 {
+        return last(ports);
+    }
+    let sets = by_port(table, set);
+    let mut best = last(0);
+    let mut tries: u32 = 0;
+    let mut w = next_choice(1, ports);
+    while w < 256 {
+        if tries == budget {
+            return beyond();
+        }
+        let word = byte(w);
+        let rest = widest(
+            table,
+            masks,
+            join(&sets, word),
+            left - 1,
+            budget - tries - 1,
+        );
+        if rest.over {
+            return beyond();
+        }
+        tries = tries + 1 + rest.tries;
+        best = wider(best, rest, word, left);
+        w = next_choice(w + 1, ports);
+    }
+    let words = best.words;
+    Found {
+        words,
+        count: best.count,
+        tries,
+        over: false,
+    }
+}
+
+// The last stage: all common ports. It adds no try.
+fn last(ports: u8) -> Found
+    ensures { λ r. ⌜ r ≡ lastFound ports ⌝ }
+{
+    let mut words = [0u8; 8];
+    words[7] = ports;
+    Found {
+        words,
+        count: u8::count_ones(ports),
+        tries: 0,
+        over: false,
+    }
+}
+
+fn beyond() -> Found
+    ensures { λ r. ⌜ r ≡ beyondFound ⌝ }
+{
+    Found {
+        words: [0; 8],
+        count: 0,
+        tries: 0,
+        over: true,
+    }
+}
+
+// The wider of the header kept and that of the word w before the rest; of equals the one kept.
+fn wider(kept: Found, rest: Found, w: u8, left: usize) -> Found
+    requires { ⌜ (1 ≤ left) × (left ≤ 8) × (rest .count ≤ 2097152) ⌝ }
+    ensures { λ r. ⌜ r ≡ widerFound kept rest w left ⌝ }
+{
+    let count = rest.count * u8::count_ones(w);
+    if count <= kept.count {
+        return kept;
+    }
+    let mut words = rest.words;
+    words[8 - left] = w;
+    Found {
+        words,
+        count,
+        tries: 0,
+        over: false,
+    }
+}
+
+// The least nonempty choice among the ports that is not below w, or 256.
+fn next_choice(from: u16, ports: u8) -> u16
+    requires { ⌜ (1 ≤ from) × (from ≤ 256) ⌝ }
+    ensures { λ r. ⌜ r ≡ nextChoice from ports ⌝ }
+{
+    let within = short(ports);
+    let mut w = from;
+    while w <= within {
+        let outside = w & (255 - within);
+        if outside == 0 {
+            return w;
+        }
+        // Every number up to the next multiple of twice that port's bit has the port too.
+        let k = u16::trailing_zeros(outside);
+        w = ((w >> k) + 1) << k;
+    }
+    256
+}
+
+// The ports common to the masks of all switches of the set.
+fn common_of(masks: &[u8; 64], set: u64) -> u8
+    ensures { λ r. ⌜ r ≡ common 64 (λ s. getD (now (masks .entry)) s 0) set ⌝ }
+{
+    let mut ports: u8 = 255;
+    let mut rest = set;
+    let mut s: usize = 0;
+    while rest != 0 {
+        let k = index(u64::trailing_zeros(rest));
+        s += k;
+        ports = ports & masks[s];
+        rest = (rest >> k) >> 1;
+        s += 1;
+    }
+    ports
+}
+
+// For each port alone, the set that it reaches from the set.
+fn by_port(table: &[u16], set: u64) -> [u64; 8]
+    requires { ⌜ Stages (now table) set ⌝ }
+    ensures { λ r. ⌜ r ≡ singles (farOf house (now (table .entry))) (switches (now (table .entry))) set ⌝ }
+{
+    let mut sets = [0u64; 8];
+    let mut rest = set;
+    let mut s: usize = 0;
+    while rest != 0 {
+        let k = index(u64::trailing_zeros(rest));
+        s += k;
+        add_links(table, s, &mut sets);
+        rest = (rest >> k) >> 1;
+        s += 1;
+    }
+    sets
+}
+
+// Adds the switches to which the ports of switch s link, each to its port's set.
+fn add_links(table: &[u16], s: usize, sets: &mut [u64; 8])
+    requires { ⌜ (length (now table) ≤ 512) × (s < switches (now table)) × (length (now sets) ≡ 8) ⌝ }
+    ensures { λ r. ⌜ now (sets .exit) ≡ withLinks (farOf house (now (table .entry))) s (now (sets .entry)) ⌝ }
+{
+    let n = table.len() / 8;
+    let mut p = 0;
+    while p < 8 {
+        if let Entry::Switch(t) = entry(table[8 * s + p], n) {
+            sets[p] = sets[p] | (1u64 << index16(t));
+        }
+        p += 1;
+    }
+}
+
+// The set that the ports of a word reach together.
+fn join(sets: &[u64; 8], w: u8) -> u64
+    ensures { λ r. ⌜ r ≡ joined (now (sets .entry)) w 8 ⌝ }
+{
+    let mut set: u64 = 0;
+    let mut p = 0;
+    while p < 8 {
+        if (w >> p) % 2 == 1 {
+            set = set | sets[p];
+        }
+        p += 1;
+    }
+    set
+}
+
+// Writes the last n of the eight words, then zeros up to the eighth byte.
+fn write(words: [u8; 8], n: usize, out: &mut [u8])
+    requires { ⌜ (n ≤ 8) × (8 ≤ length (now out)) ⌝ }
+    ensures { λ r. ⌜ now (out .exit) ≡ drop (8 - n) words ++ (replicate (8 - n) 0 ++ drop 8 (now (out .entry))) ⌝ }
+{
+    let mut i = 0;
+    while i < 8 {
+        if i < n {
+            out[i] = words[8 - n + i];
+        } else {
+            out[i] = 0;
+        }
+        i += 1;
+    }
+}
+
+fn wide(x: u8) -> usize
+    ensures { λ r. ⌜ r ≡ x ⌝ }
+{
+    x as usize
+}
+
+fn short(x: u8) -> u16
+    ensures { λ r. ⌜ r ≡ x ⌝ }
+{
+    x as u16
+}
+
+fn byte(x: u16) -> u8
+    requires { ⌜ x < 256 ⌝ }
+    ensures { λ r. ⌜ r ≡ x ⌝ }
+{
+    x as u8
+}
+
+fn index(x: u32) -> usize
+    ensures { λ r. ⌜ r ≡ x ⌝ }
+{
+    x as usize
+}
+
+fn index16(x: u16) -> usize
+    ensures { λ r. ⌜ r ≡ x ⌝ }
+{
+    x as usize
+}
