@@ -14,7 +14,7 @@ use Rattle.rules.specs.Header.{permits}
 use Rattle.rules.specs.Table.{Sizes}
 use Rattle.rules.specs.Refusals.{mostHops}
 use Rattle.rules.specs.Look.{Looked, first, accepted, answered}
-use Rattle.rules.specs.RunTable.{lookTable, judgeOf}
+use Rattle.rules.specs.RunTable.{judgeOf}
 use Rattle.rules.specs.RunPair.{distance, triesOf, wordsOf, passesOf, lookApart, look7, look8, look9, issueJudgement, issueAnswer, issueMemory, testOf}
 use Rattle.ways.specs.Pairs.{lookLong, pairJudgement}
 use Rattle.header.specs.Pairs.{issuePairJudgement, issuePair, issuePairMemory, testPair}

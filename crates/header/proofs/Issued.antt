@@ -1,14 +1,13 @@
 -- The ways out of header issue and of the header test without the judge: what the search found, and what the stages say, over the masks of
 -- the pair are 01's rules. Assumes nothing.
-use Prim.Native.Nat.{ℕ, _+_, _*_, _-_, _^_, _%_, _≤_, _<_}
-use native.Mathlib.Nat.{le-of-eq}
+use Prim.Native.Nat.{ℕ, _*_, _-_, _^_, _%_, _≤_, _<_}
 use native.Mathlib.Omega.{arith}
 use mathlib.Core.Path.{_≡_, refl, sym, ap, ap₂, _∙_, subst}
 use mathlib.Core.Bool.{Bool, true, false, cond, _&&_, not}
 use mathlib.Core.List.{List, [], _∷_, _++_}
-use mathlib.Core.Option.{Option, none, some}
+use mathlib.Core.Option.{Option, some}
 use borrow.Author.Tests.{lt-ltb, le-ltb, eq-eqb, ne-eqb}
-use lib.Dec.{T, eqb, ltb}
+use lib.Dec.{T, ltb}
 use lib.ListN.{length, getD, drop, replicate, length-replicate}
 use lib.Seq.{drop-at}
 use Rattle.rules.specs.declared.Judgement.{Judgement}
@@ -18,8 +17,6 @@ use Rattle.rules.specs.declared.Verdict.{Verdict}
 use Rattle.rules.specs.declared.Verdict.the-variants.{Neither, No, Yes}
 use Rattle.ways.specs.declared.Pair.{Pair}
 use Rattle.header.specs.declared.Found.{Found}
-use Rattle.rules.specs.Sets.{tabulate}
-use Rattle.rules.specs.Header.{permits}
 use Rattle.rules.specs.Tries.{limit, tries, chooses}
 use Rattle.rules.specs.Run.{best}
 use Rattle.rules.specs.Table.{house, farOf, switches}
@@ -28,7 +25,7 @@ use Rattle.rules.specs.Look.{first, accepted, answered}
 use Rattle.rules.specs.RunTable.{home}
 use Rattle.rules.specs.RunPair.{words, distance, mask, triesOf, wordsOf, passesOf, look8, look9}
 use Rattle.ways.specs.Pairs.{pairJudgement, pairOf}
-use Rattle.header.specs.Found.{found, wordsIn, countIn, foundOf, beyondFound, placed}
+use Rattle.header.specs.Found.{found, wordsIn, countIn, foundOf, beyondFound}
 use Rattle.header.specs.Pairs.{issuePairJudgement, issuePair, issuePairMemory, testPair}
 use Rattle.rules.proofs.Says.{first-none, first-some, answered-refused, answered-accepted, accepted-true}
 use Rattle.rules.proofs.Lists.{getD-tabulate}
@@ -37,7 +34,7 @@ use Rattle.rules.proofs.Tables.{farOf-wired}
 use Rattle.ways.proofs.PairLaws.{bare}
 use Rattle.ways.proofs.MeetLaws.{nothing-said}
 use Rattle.header.proofs.Same.{chooses-same, tries-same, best-same}
-use Rattle.header.proofs.Opened.{Opened, pair-number, opened, start-is, some-hops}
+use Rattle.header.proofs.Opened.{Opened, pair-number, opened, start-is}
 use Rattle.header.proofs.IssueLaws.{issue-stop, issue-last, issue-bare, issue-made, saying, test-bare}
 
 -- what an answer and the lent output are to be

@@ -4,11 +4,11 @@ use Prim.Native.Nat.{ℕ, zero, _*_, _^_, _%_, _≤_, _<_}
 use native.Mathlib.Nat.{one-mul, eq-zero-or-pos}
 use native.Mathlib.Omega.{arith}
 use mathlib.Core.Path.{_≡_, refl, sym, ap, _∙_, subst}
-use mathlib.Core.Logic.{_⊎_, ⊎-elim}
+use mathlib.Core.Logic.{⊎-elim}
 use mathlib.Core.Bool.{Bool, true, false, cond, _&&_, not}
 use mathlib.Core.List.{List, [], _∷_}
-use lib.Dec.{T, eqb, ltb, lt→ltb, not-T, nltb→le}
-use lib.ListN.{length, getD, replicate}
+use lib.Dec.{T, eqb, ltb, nltb→le}
+use lib.ListN.{length, replicate}
 use lib.Pow.{pow-lt, shl-exact}
 use Rattle.rules.specs.declared.Judgement.{Judgement}
 use Rattle.rules.specs.declared.Answer.{Answer}
@@ -17,11 +17,11 @@ use Rattle.rules.specs.Sets.{tabulate}
 use Rattle.rules.specs.Net.{Distance}
 use Rattle.rules.specs.Table.{house, farOf, switches, Stands}
 use Rattle.rules.specs.Refusals.{mostHops}
-use Rattle.rules.specs.Look.{Looked, pick, first, when, accepted, answered}
+use Rattle.rules.specs.Look.{Looked, pick, first, when}
 use Rattle.rules.specs.RunTable.{attached, home}
 use Rattle.rules.specs.RunPair.{distance, mask, lookApart, look7}
 use Rattle.ways.specs.Pairs.{lookLong, pairJudgement, pairOf}
-use Rattle.rules.proofs.SetLaws.{T-and, true-T}
+use Rattle.rules.proofs.SetLaws.{T-and}
 use Rattle.rules.proofs.Says.{first-zero, answered-number, answered-zero, accepted-true}
 use Rattle.rules.proofs.Ways.{never-zero}
 use Rattle.rules.proofs.Layers.{dist-cases, unreachable-is}

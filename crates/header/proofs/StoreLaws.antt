@@ -1,7 +1,7 @@
 -- Lists that are stored into, one place after another: the places passed have what the whole is to have, the others what they had before.
 -- So the links of a switch are added to the ports' sets, and the words written out. Assumes nothing.
-use Prim.Native.Nat.{ℕ, zero, suc, _+_, _*_, _-_, _/_, _%_, _^_, _≤_, _<_}
-use native.Mathlib.Nat.{le-refl, not-suc-le-zero, le-of-suc-le-suc}
+use Prim.Native.Nat.{ℕ, zero, _+_, _*_, _-_, _/_, _%_, _^_, _≤_, _<_}
+use native.Mathlib.Nat.{le-refl, not-suc-le-zero}
 use native.Mathlib.Decide.{decLt}
 use native.Mathlib.Omega.{arith}
 use borrow.Author.Count.{below-more}
@@ -15,6 +15,7 @@ use lib.ListN.{length, getD, set, drop, replicate, length-set, length-append, le
 use lib.Seq.{ext-getD, getD-drop, getD-set-same, getD-set-other, getD-append-add}
 use lib.Bits.{bitOr}
 use lib.Pow.{shl-exact}
+use Rattle.wiring.proofs.Laws.{getD-inside}
 use Rattle.rules.proofs.Entry.{the-type}
 use Rattle.rules.specs.declared.Entry.{Entry}
 use Rattle.rules.specs.declared.Entry.the-variants.{Switch, Node, Nothing, Bad}
@@ -69,11 +70,6 @@ module _ (far : ℕ → ℕ → Far) (s : ℕ) (sets : List ℕ) where
   pub links-all : {now : List ℕ} {p : ℕ} → Stored (withLinks far s sets) sets now p → length sets ≡ 8 → 8 ≤ p → now ≡ withLinks far s sets
   unfolding withLinks
   links-all h e l = stored-all h (length-tabulate 8 (λ p. linked (far s p) (getD sets p 0)) ∙ sym e) (λ j k i. absurd (omega arith))
-
-getD-inside : (t : List ℕ) (i a b : ℕ) → i < length t → getD t i a ≡ getD t i b
-getD-inside [] i a b l = absurd (not-suc-le-zero l)
-getD-inside (x ∷ t) zero a b l = refl
-getD-inside (x ∷ t) (suc i) a b l = getD-inside t i a b (le-of-suc-le-suc l)
 
 -- e is what port p of switch s is, as the code reads it
 module _ (t : List ℕ) (s p : ℕ) (inside : s < switches t) (port : p < 8) {e : Entry} (read : e ≡ kind house (length t / 8) (getD t (8 * s + p) 0)) where

@@ -7,8 +7,8 @@
 --   nextChoice w c                 the least choice among c that is not below w, or 256
 --   singles, withLinks, joined     the sets that the ports reach alone; one switch more; those of a word together
 use Prim.Native.Nat.{ℕ, zero, suc, _+_, _-_, _*_, _^_, _≤_, _<_}
-use mathlib.Core.Bool.{Bool, true, false, cond}
-use mathlib.Core.List.{List, [], _∷_, _++_}
+use mathlib.Core.Bool.{true, false, cond}
+use mathlib.Core.List.{List, _++_}
 use mathlib.Core.Option.{Option, none, some}
 use lib.ListN.{length, getD, set, replicate}
 use lib.Dec.{ltb, leb}

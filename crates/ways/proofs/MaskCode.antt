@@ -1,14 +1,14 @@
 -- The masks as the code makes them: what each arm of the test of an entry says, a mask grown a port at a time, and the masks of all
 -- switches, written from the last of the order to the first. Assumes nothing.
 use Prim.Native.Nat.{ℕ, zero, suc, _+_, _*_, _/_, _%_, _-_, _^_, _≤_, _<_, zero-le}
-use native.Mathlib.Nat.{le-refl, eq-zero-or-pos, add-zero, one-mul, not-suc-le-zero, le-of-suc-le-suc}
+use native.Mathlib.Nat.{le-refl, eq-zero-or-pos, add-zero, one-mul}
 use native.Mathlib.Decide.{decLe, ℕ-discrete}
 use native.Mathlib.Numerals.{add-one}
 use native.Mathlib.Omega.{arith}
 use mathlib.Core.Path.{_≡_, refl, sym, ap, _∙_, subst}
 use mathlib.Core.Logic.{_⊎_, inl, inr, ⊎-elim}
 use mathlib.Core.Bool.{Bool, true, false, cond, not}
-use mathlib.Core.List.{List, [], _∷_}
+use mathlib.Core.List.{List}
 use borrow.Author.Tests.{lt-ltb, eq-eqb, ne-eqb, not-true, not-false}
 use lib.Dec.{eqb, ltb}
 use lib.ListN.{length, getD, set, replicate, length-set, length-replicate}
@@ -19,11 +19,13 @@ use Rattle.rules.specs.declared.Entry.the-variants.{Switch, Node, Nothing, Bad}
 use Rattle.rules.specs.Sets.{setOf, tabulate}
 use Rattle.rules.specs.Table.{house, noLink, kind, leads, switches, kindAt, farOf}
 use Rattle.rules.specs.Run.{maskOf}
+use Rattle.wiring.proofs.Laws.{getD-inside}
 use Rattle.rules.proofs.SetLaws.{setOf-lt}
 use Rattle.rules.proofs.Tables.{far-inside, farOf-wired, kind-switch}
 use Rattle.rules.proofs.Lists.{length-tabulate, getD-tabulate}
 use Rattle.ways.specs.Onward.{ahead, onwardOf}
 use Rattle.ways.specs.Inner.{Inside, Ready}
+use Rattle.ways.proofs.QueueLaws.{zeros}
 use Rattle.ways.proofs.Forward.{mask-none, onward-step}
 
 -- ---- one entry
@@ -103,11 +105,6 @@ module _ {f : ℕ → Bool} where
   pub grown-end : {mask p : ℕ} → Grown f mask p → 8 ≤ p → mask ≡ setOf 8 f
   grown-end {mask} {p} g l = let s = g .some in let e : p ≡ 8 = omega arith in g .is ∙ ap (λ (k : ℕ). setOf k f) e
 
-getD-inside : (t : List ℕ) (i a b : ℕ) → i < length t → getD t i a ≡ getD t i b
-getD-inside [] i a b l = absurd (not-suc-le-zero l)
-getD-inside (x ∷ t) zero a b l = refl
-getD-inside (x ∷ t) (suc i) a b l = getD-inside t i a b (le-of-suc-le-suc l)
-
 -- port p of switch s leads where the entry read there says
 port-leads : (t : List ℕ) (s p : ℕ) {e : Entry} → s < switches t → p < 8 → e ≡ kind house (length t / 8) (getD t (8 * s + p) 0) → leads e ≡ farOf house t s p
 unfolding kindAt switches
@@ -130,11 +127,6 @@ kind-inside t x {e} l q = at e q
     at Bad k = tt
 
 -- ---- all switches
-
-zeros : (n i : ℕ) → _≡_ {A = ℕ} (getD (replicate n 0) i 0) 0
-zeros zero i = refl
-zeros (suc n) zero = refl
-zeros (suc n) (suc i) = zeros n i
 
 -- the masks of the switches of the order from place i on have been written, and nothing else
 pub record Written (mask : ℕ → ℕ) (order : List ℕ) (reached : ℕ) (masks : List ℕ) (i : ℕ) : Type 0 where

@@ -21,7 +21,7 @@ use Rattle.rules.proofs.Says.{Numbered, first-none, first-some, first-stop, fir
 use Rattle.ways.specs.declared.Pair.{Pair}
 use Rattle.ways.specs.declared.Met.{Met}
 use Rattle.ways.specs.Pairs.{lookLong, measurePair, pairJudgement, pairOf}
-use Rattle.ways.specs.Inner.{Ready, Meets, noPair}
+use Rattle.ways.specs.Inner.{Meets, noPair}
 use Rattle.ways.proofs.PairLaws.{bare}
 use Rattle.ways.proofs.MeetLaws.{nothing-said}
 

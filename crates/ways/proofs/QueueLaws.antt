@@ -214,7 +214,7 @@ module _ {far : ℕ → ℕ → Far} {size a s : ℕ} {order depth : List ℕ} {
 
 -- ---- the start and the end
 
-zeros : (n i : ℕ) → _≡_ {A = ℕ} (getD (replicate n 0) i 0) 0
+pub zeros : (n i : ℕ) → _≡_ {A = ℕ} (getD (replicate n 0) i 0) 0
 zeros zero i = refl
 zeros (suc n) zero = refl
 zeros (suc n) (suc i) = zeros n i

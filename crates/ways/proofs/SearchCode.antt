@@ -1,7 +1,6 @@
 -- What the code of the search reads and keeps: where a port leads by its entry, whether a processor stands at a switch, and one port of the
 -- switch that the search goes on from. Assumes nothing.
 use Prim.Native.Nat.{ℕ, zero, suc, _+_, _*_, _/_, _≤_, _<_}
-use native.Mathlib.Nat.{not-suc-le-zero, le-of-suc-le-suc}
 use native.Mathlib.Numerals.{add-one}
 use native.Mathlib.Omega.{arith}
 use mathlib.Core.Path.{_≡_, refl, sym, ap, _∙_, subst}
@@ -20,17 +19,12 @@ use Rattle.rules.specs.Table.{house, noLink, kind, kindAt, leads, switches, far
 use Rattle.rules.specs.RunTable.{isEntryOf, isNode, stands}
 use Rattle.rules.proofs.SetLaws.{any-yes, any-some, T-true, true-T, same-T}
 use Rattle.rules.proofs.Tables.{kind-switch, leads-switch, far-inside, farOf-wired}
-use Rattle.wiring.proofs.Laws.{Read, kind-link, Passed, stands-told, stands-not, stands-other}
+use Rattle.wiring.proofs.Laws.{getD-inside, Read, kind-link, Passed, stands-told, stands-not, stands-other}
 use Rattle.ways.specs.Search.{Queue, Searched}
 use Rattle.ways.specs.Inner.{Expands, Expanded}
 use Rattle.ways.proofs.QueueLaws.{Expanding, queue-start, queue-end, queue-few, queue-low, queue-room, queue-begin, queue-skip, queue-add, queue-next}
 
 -- ---- a port by its entry
-
-getD-inside : (t : List ℕ) (i a b : ℕ) → i < length t → getD t i a ≡ getD t i b
-getD-inside [] i a b l = absurd (not-suc-le-zero l)
-getD-inside (x ∷ t) zero a b l = refl
-getD-inside (x ∷ t) (suc i) a b l = getD-inside t i a b (le-of-suc-le-suc l)
 
 leads-entry : (a : ℕ) (x : Entry) → isNode a (leads x) ≡ isEntryOf a x
 unfolding isNode leads isEntryOf

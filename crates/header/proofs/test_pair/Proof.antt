@@ -1,5 +1,5 @@
 -- `header::test_pair` refuses as the pair is refused, says no to another length, and else what the stages say. Assumes nothing.
-use mathlib.Core.Path.{refl, sym, _∙_}
+use mathlib.Core.Path.{sym, _∙_}
 use borrow.Author.Needs.{needs}
 use Rattle.header.proofs.Opened.{opened, home-small, start-stages}
 use Rattle.header.proofs.Issued.{test-none, test-long, test-said}

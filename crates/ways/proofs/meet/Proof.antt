@@ -1,6 +1,5 @@
 -- `ways::meet` answers as refusals 4, 5 and 6 go down, and else with what the search found. Assumes nothing.
-use native.Mathlib.Omega.{arith}
-use mathlib.Core.Path.{_≡_, refl, sym, ap, _∙_, subst}
+use mathlib.Core.Path.{refl, sym, ap, subst}
 use Prim.Native.Nat.{ℕ, _<_}
 use lib.ListN.{getD}
 use borrow.Author.Needs.{needs}
