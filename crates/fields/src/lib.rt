@@ -130,7 +130,14 @@ fn word(bytes: &[u8], at: usize) -> u16
     requires { ⌜ at + 1 < length (now bytes) ⌝ }
     ensures { λ r. ⌜ r ≡ two (now (bytes .entry)) at ⌝ }
 {
-    256 * half(bytes[at]) + half(bytes[at + 1])
+    number_of(bytes[at], bytes[at + 1])
+}
+
+// The number whose bytes these are, the most significant first.
+fn number_of(high: u8, low: u8) -> u16
+    ensures { λ r. ⌜ r ≡ 256 * high + low ⌝ }
+{
+    256 * half(high) + half(low)
 }
 
 fn half(x: u8) -> u16

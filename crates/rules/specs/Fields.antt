@@ -40,7 +40,7 @@ module _ (b : List ℕ) where
   abbrev pub offset : ℕ → ℕ → ℕ
   offset k p = 19 * k + 7 * p
 
-  -- 01: "leaves the rest of it"; entry i is at port i % 8 of switch i / 8
+  -- 01: "the eight entries of the next switch": entry i of t is that of port i % 8 in the field of switch i / 8
   abbrev pub Holds : ℕ → List ℕ → Type 0
   Holds k t = (i : ℕ) → i < 8 * k → getD t i 0 ≡ two (19 * (i / 8) + 3 + 2 * (i % 8))
 

@@ -34,7 +34,7 @@ pub record Lowest (P : ℕ → Type 0) (i : ℕ) : Type 0 where
 abbrev pub lowest : ℕ → (ℕ → Type 0) → Refusal
 lowest k P = record { number = k; given = Lowest P }
 
--- 01: "a header for distance 8 or less", "the distance is over 8"; the walk: "over 8 words"
+-- 01: "the distance is over 8", "It needs 8 output bytes", and of the walk "the header has over 8 words"
 abbrev pub mostHops : ℕ
 mostHops = 8
 
