@@ -52,12 +52,9 @@ pub fn judge(table: &[u16]) -> Judgement
             place: 0,
         };
     }
-    let bad = first_bad(table);
-    if bad < len {
-        return Judgement {
-            number: 2,
-            place: bad,
-        };
+    let place = first_bad(table);
+    if place < len {
+        return Judgement { number: 2, place };
     }
     let twice = first_again(table);
     if twice < len {
