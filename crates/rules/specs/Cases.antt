@@ -4,7 +4,7 @@
 --   Asked, Told    an operation with its input; all that it gives and leaves
 --   answer q       what the twins give    Keeps q r  r keeps the operation's promise
 --   cases          the table
-use Prim.Native.Nat.{ℕ}
+use Prim.Native.Nat.{ℕ, _+_}
 use Prim.Native.String.{String}
 use mathlib.Core.List.{List, [], _∷_, _++_}
 use lib.ListN.{replicate}
@@ -24,19 +24,23 @@ row a b c d e f g h = a ∷ b ∷ c ∷ d ∷ e ∷ f ∷ g ∷ h ∷ []
 abbrev pub dash : ℕ
 dash = noLink
 
+-- the entry of a processor
+abbrev pub processor : ℕ → ℕ
+processor a = house .first + a
+
 abbrev pub A : List ℕ
 A =
-    row 1000 1001 dash dash 2 3 dash dash
-    ++ row 1002 1003 dash dash 2 3 dash dash
+    row (processor 0) (processor 1) dash dash 2 3 dash dash
+    ++ row (processor 2) (processor 3) dash dash 2 3 dash dash
     ++ row 0 1 dash dash dash dash dash dash
     ++ row 0 dash 1 dash dash dash dash dash
 
 abbrev pub B : List ℕ
 B =
-    row 1000 dash dash dash 1 2 dash dash
+    row (processor 0) dash dash dash 1 2 dash dash
     ++ row 3 3 3 dash dash dash dash dash
     ++ row dash dash 3 dash dash dash dash dash
-    ++ row 1001 dash dash dash dash dash dash dash
+    ++ row (processor 1) dash dash dash dash dash dash dash
 
 abbrev pub lent : List ℕ
 lent = replicate 9 7
