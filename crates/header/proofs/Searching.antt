@@ -3,9 +3,11 @@
 use Prim.Native.Nat.{ℕ, suc, _+_, _-_, _^_, _≤_, _<_}
 use native.Mathlib.Omega.{arith}
 use mathlib.Core.Path.{_≡_, sym, ap, ap₂, _∙_, subst}
-use mathlib.Core.Bool.{true, false}
+use mathlib.Core.Bool.{Bool, true, false}
 use mathlib.Core.List.{List}
 use lib.ListN.{getD}
+use lib.Dec.{ltb}
+use borrow.Author.Tests.{le-ltb}
 use Rattle.rules.specs.Net.{Far}
 use Rattle.rules.specs.Table.{house, switches, farOf}
 use Rattle.rules.specs.Tries.{common, reach, reaches}
@@ -16,7 +18,7 @@ use Rattle.header.specs.Found.{Searches, Stages, foundOf, lastFound, bey
 use Rattle.header.proofs.LeafLaws.{common-size, joined-reach}
 use Rattle.header.proofs.LastStage.{found-last}
 use Rattle.header.proofs.Widths.{best-fine, found-few}
-use Rattle.header.proofs.WidestLaws.{Turn, after, cost, rest, whole, whole-is, turn-start, full-at, over-at, take-at, end-at, tried}
+use Rattle.header.proofs.WidestLaws.{Turn, after, cost, rest, whole, whole-is, turn-start, full-at, over-at, take-at, end-at}
 
 module _ (t ms : List ℕ) where
   abbrev far : ℕ → ℕ → Far
@@ -58,8 +60,12 @@ module _ (t ms : List ℕ) where
           whole-is far (switches t) mask m left ports budget (ports-common m ports (known .searches .stages) (known .common-ports))
           (let d = known .deep in let o = known .searches .some in omega arith)
 
-      pub ended : (h : Found) (k w : ℕ) → Search h k w → 256 ≤ w → tried h k ≡ foundOf far (switches t) mask m left budget
-      ended h k w u l = end-at ports (after far (switches t) mask m left) (cost far (switches t) mask m left) budget h k w u l ∙ is-whole
+      -- at the end the tries have not passed the budget, so the search is not over it
+      pub ended : (h : Found) (k w : ℕ) → Search h k w → 256 ≤ w → (over : Bool) → over ≡ ltb budget k
+          → record { words = h .words; count = h .count; tries = k; over = over } ≡ foundOf far (switches t) mask m left budget
+      ended h k w u l over e =
+          ap (λ (b : Bool). record { words = h .words; count = h .count; tries = k; over = b }) (e ∙ le-ltb budget k (u .in-budget))
+          ∙ end-at ports (after far (switches t) mask m left) (cost far (switches t) mask m left) budget h k w u l ∙ is-whole
 
       pub full : (h : Found) (k w : ℕ) → Search h k w → w < 256 → k ≡ budget → (r : Found) → r ≡ beyondFound → r ≡ foundOf far (switches t) mask m left budget
       full h k w u l e r q = q ∙ full-at ports (after far (switches t) mask m left) (cost far (switches t) mask m left) budget h k w u l e ∙ is-whole

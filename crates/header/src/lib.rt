@@ -175,7 +175,7 @@ fn widest(table: &[u16], masks: &[u8; 64], set: u64, left: usize, budget: u32) -
         words,
         count: best.count,
         tries,
-        over: false,
+        over: tries > budget,
     }
 }
 

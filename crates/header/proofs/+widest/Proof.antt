@@ -193,7 +193,7 @@ widest-loop-again t c =
 widest-returns-4 : (t : ℕ) → widest-lts.Need-returns-4 (calls t) (widest-at t) widest.Post widest-Inv-loop widest-μ-loop
 widest-returns-4 t c =
     let u = c .before .before .loop in
-    ended _ _ _ _ _ _ _ (known t (c .before .before .before .before .before)) (u .best) (u .tries) (u .w) (u .inv) (c .before .loop-test .left)
+    ended _ _ _ _ _ _ _ (known t (c .before .before .before .before .before)) (u .best) (u .tries) (u .w) (u .inv) (c .before .loop-test .left) _ refl
 
 pub +widest-spec : {M : Type 1} → statement M
 +widest-spec = close μ-widest λ t. widest-lts.spec (calls t)
