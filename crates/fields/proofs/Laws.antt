@@ -17,6 +17,7 @@ use Rattle.rules.specs.Fields.{two, Field, Filled}
 use Rattle.rules.specs.RunFields.{isField, rows, pairs, entries, look12, fieldsJudgement, fieldsOf, fieldsMemory}
 use Rattle.rules.specs.Look.{first, pick, when, accepted}
 use Rattle.rules.specs.declared.FieldAnswer.{FieldAnswer}
+use Rattle.fields.specs.Rows.{rowsJudgement, rowsOf, rowsMemory}
 use Rattle.rules.proofs.SetLaws.{T-true, same-T, eq-T, least-is, least-one}
 use Rattle.rules.proofs.FieldLaws.{in-field, upto-is, upto-rows, upto-within, entries-length}
 use Rattle.rules.proofs.FieldPromises.{filled-met}
@@ -123,3 +124,32 @@ module _ (b out : List ℕ) where
         let w = le-ltb _ _ m in
         let q : 19 * rows b 64 + 7 * 0 ≡ 19 * s = omega arith in
         met _ o (simp (t, w) cc) (simp (t, w) cc)
+
+-- ---- the same ways out where every field is a tag 1
+
+module _ (b out : List ℕ) (s : ℕ) (u : s ≡ rows b 64) where
+  pub rows-bad : (r : FieldAnswer) → r ≡ record { number = 12; place = 19 * s; switches = 0; pairs = 0 } → 19 * s < length b → (r ≡ rowsOf house b out) × (out ≡ rowsMemory house b out)
+  unfolding rowsOf rowsMemory rowsJudgement look12 first pick when accepted
+  rows-bad r e l =
+      let g : 19 * rows b 64 + 7 * 0 < length b = omega arith in
+      let q : 19 * rows b 64 + 7 * 0 ≡ 19 * s = omega arith in
+      let t = lt-ltb _ _ g in
+      (simp t cc, simp t)
+
+  pub rows-short : (r : FieldAnswer) → r ≡ record { number = 8; place = 0; switches = 0; pairs = 0 } → length b ≤ 19 * s → length out < 512 → (r ≡ rowsOf house b out) × (out ≡ rowsMemory house b out)
+  unfolding rowsOf rowsMemory rowsJudgement look12 first pick when accepted
+  rows-short r e l m =
+      let g : length b ≤ 19 * rows b 64 + 7 * 0 = omega arith in
+      let t = le-ltb _ _ g in
+      let w = lt-ltb _ _ m in
+      (simp (t, w) cc, simp (t, w))
+
+  pub rows-whole : (k : ℕ) (o : List ℕ) → k ≡ s → o ≡ entries b s ++ drop (8 * s) out → length b ≤ 19 * s → 512 ≤ length out
+      → (record { number = 0; place = 0; switches = k; pairs = 19 * s } ≡ rowsOf house b out) × (o ≡ rowsMemory house b out)
+  unfolding rowsOf rowsMemory rowsJudgement look12 first pick when accepted
+  rows-whole k o e f l m =
+      let g : length b ≤ 19 * rows b 64 + 7 * 0 = omega arith in
+      let t = le-ltb _ _ g in
+      let w = le-ltb _ _ m in
+      let q : 19 * rows b 64 + 7 * 0 ≡ 19 * s = omega arith in
+      (simp (t, w) cc, simp (t, w) cc)

@@ -7,12 +7,13 @@ ghost use lib.ListN.{length, drop};
 ghost use Rattle.rules.specs.Table.{house};
 ghost use Rattle.rules.specs.Fields.{two, Filled};
 ghost use Rattle.fields.specs.Pairs.{pairAt};
+ghost use Rattle.fields.specs.Rows.{rowsOf, rowsMemory};
 ghost use Rattle.rules.specs.RunFields.{isField, rows, pairs, entries};
 
 // The two processors of a pair's field.
 pub struct Ends {
-    pub source: u64,
-    pub target: u64,
+    pub source: u16,
+    pub target: u16,
 }
 
 // Fills the table with the entries of the fields of tag 1, and gives the number of switches and where the pairs begin.
@@ -37,6 +38,27 @@ pub fn read(bytes: &[u8], table: &mut [u16]) -> FieldAnswer
     }
 }
 
+// Fills the table with the entries of an input that is a table alone: there a tag 2 is bad where it stands.
+pub fn read_rows(bytes: &[u8], table: &mut [u16]) -> FieldAnswer
+    ensures { λ r. ⌜ (r ≡ rowsOf house (now (bytes .entry)) (now (table .entry))) × (now (table .exit) ≡ rowsMemory house (now (bytes .entry)) (now (table .entry))) ⌝ }
+{
+    let switches = count_rows(bytes);
+    let past = 19 * switches;
+    if past < bytes.len() {
+        return refused(12, past);
+    }
+    if table.len() < 512 {
+        return refused(8, 0);
+    }
+    fill(bytes, switches, table);
+    FieldAnswer {
+        number: 0,
+        place: 0,
+        switches: narrow(switches),
+        pairs: past,
+    }
+}
+
 // The processors of the pair whose field begins at this offset; 0 and 0 where the input has no seven bytes from there.
 pub fn pair(bytes: &[u8], at: usize) -> Ends
     ensures { λ r. ⌜ r ≡ pairAt (now (bytes .entry)) at ⌝ }
@@ -54,8 +76,8 @@ pub fn pair(bytes: &[u8], at: usize) -> Ends
         };
     }
     Ends {
-        source: number(word(bytes, at + 3)),
-        target: number(word(bytes, at + 5)),
+        source: word(bytes, at + 3),
+        target: word(bytes, at + 5),
     }
 }
 
@@ -150,12 +172,6 @@ fn wide(x: u16) -> usize
     ensures { λ r. ⌜ r ≡ x ⌝ }
 {
     x as usize
-}
-
-fn number(x: u16) -> u64
-    ensures { λ r. ⌜ r ≡ x ⌝ }
-{
-    x as u64
 }
 
 fn narrow(x: usize) -> u8

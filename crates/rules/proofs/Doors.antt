@@ -1,26 +1,23 @@
 -- The C call and the line of a pair: their answers are those of header issue, so each keeps its promise and no second one does. The
 -- entries of the fields are one table, since there is one way through the fields. Assumes nothing.
-use Prim.Native.Nat.{ℕ, _+_, _*_, _/_, _%_, _^_, _<_}
-use native.Mathlib.Omega.{arith}
+use Prim.Native.Nat.{ℕ, _*_}
 use native.Mathlib.Decide.{ℕ-discrete}
 use mathlib.Core.Path.{_≡_, refl, sym, ap, ap₂, _∙_, subst}
 use mathlib.Core.Bool.{Bool, true, false, cond}
 use mathlib.Core.List.{List, [], append-nil}
 use native.Mathlib.Nat.{le-of-eq}
-use lib.Dec.{T, eqb, eqb→eq}
-use lib.Pow.{low}
 use lib.ListN.{length, take, replicate, drop-of-length-le}
 use Rattle.rules.specs.declared.Judgement.{Judgement}
 use Rattle.rules.specs.declared.Answer.{Answer}
 use Rattle.rules.specs.Table.{Sizes}
 use Rattle.rules.specs.Refusals.{mostHops}
-use Rattle.rules.specs.Promise.{Issued}
-use Rattle.rules.specs.Fields.{Holds, Upto, packed, Called}
+use Rattle.rules.specs.Promise.{Blank, Issued}
+use Rattle.rules.specs.Fields.{Holds, Loaded}
+use Rattle.rules.specs.Pack.{Packs}
 use Rattle.rules.specs.Print.{line, Printed}
 use Rattle.rules.specs.Look.{accepted, answered}
 use Rattle.rules.specs.RunPair.{issueAnswer, issueMemory}
 use Rattle.rules.specs.RunFields.{rows, entries, callJudgement, callAnswer, callMemory, pairLine}
-use Rattle.rules.proofs.SetLaws.{eq-T, T-true}
 use Rattle.rules.proofs.Says.{accepted-zero, refused-not}
 use Rattle.rules.proofs.Kept.{issued-met, zeros}
 use Rattle.rules.proofs.Only.{issued-only, blank-same}
@@ -34,18 +31,35 @@ module _ (z : Sizes) (b : List ℕ) where
   abbrev table : List ℕ
   table = entries b (rows b (z .most))
 
-  -- any table that holds the rows of the whole input is that one
-  table-one : (n : ℕ) (t : List ℕ) → Upto b z n 0 (length b) → length t ≡ 8 * n → Holds b n t → table ≡ t
-  table-one n t u l h =
-      let e = rows-all z b n u in
-      let m = entries-length b n in
-      let k : Holds b n (entries b n) = subst (Holds b n) (append-nil (entries b n)) (entries-hold b n []) in
-      ap (entries b) (sym e) ∙ holds-one b n (entries b n) t (m ∙ sym l) (drop-of-length-le (entries b n) (le-of-eq m) ∙ sym (drop-of-length-le t (le-of-eq l))) k h
+  pub table-held : Holds b (rows b (z .most)) table
+  table-held = subst (Holds b (rows b (z .most))) (append-nil table) (entries-hold b (rows b (z .most)) [])
+
+  -- any table that holds them all, and nothing else, is that one
+  pub table-one : (n : ℕ) (t : List ℕ) → n ≡ rows b (z .most) → length t ≡ 8 * n → Holds b n t → table ≡ t
+  table-one n t e l h =
+      let k = rows b (z .most) in
+      let m = entries-length b k in
+      let f : length t ≡ 8 * k = l ∙ ap (λ (i : ℕ). 8 * i) e in
+      holds-one b k table t (m ∙ sym f) (drop-of-length-le table (le-of-eq m) ∙ sym (drop-of-length-le t (le-of-eq f))) table-held (subst (λ (i : ℕ). Holds b i t) e h)
 
   module _ (a d : ℕ) (out : List ℕ) where
-    pub called-met : Called z b a d out (packed (callAnswer b z a d out)) (callMemory b z a d out)
+    -- a field that is no row is told, and nothing is written
+    pub loaded-bad : (r : Answer) → ¬ (callJudgement b z .number ≡ 0) → r .number ≡ callJudgement b z .number → r .place ≡ callJudgement b z .place → Blank r → Loaded z b a d out r out
+    loaded-bad r h e f k = record {
+      bad = λ q g. let x = call-bad z b q g in (e ∙ ap (λ (j : Judgement). j .number) x, f ∙ ap (λ (j : Judgement). j .place) x, k, refl);
+      issued = λ n t u l g. let x = call-refuses z b h in absurd (call-clash z b (x .0) n (x .1) u);
+    }
+
+    -- else the answer is that of header issue in the table of the rows
+    pub loaded-good : (r : Answer) (o : List ℕ) → callJudgement b z .number ≡ 0 → Issued z table a d out r o → Loaded z b a d out r o
+    loaded-good r o h k = record {
+      bad = λ q g. absurd (call-clash z b q (rows b (z .most)) g (call-rows z b h));
+      issued = λ n t u l g. subst (λ (x : List ℕ). Issued z x a d out r o) (table-one n t (rows-all z b n u) l g) k;
+    }
+
+    pub loaded-met : Loaded z b a d out (callAnswer b z a d out) (callMemory b z a d out)
     unfolding callAnswer callMemory answered
-    called-met = at (accepted j) refl
+    loaded-met = at (accepted j) refl
       where
         j : Judgement
         j = callJudgement b z
@@ -59,65 +73,30 @@ module _ (z : Sizes) (b : List ℕ) where
         bare : Answer
         bare = record { number = j .number; place = j .place; distance = 0; count = 0; tries = 0 }
 
-        at : (c : Bool) → accepted j ≡ c → Called z b a d out (packed (cond c r (cond c bare bare))) (cond c o out)
-        at true e = record {
-          answer = r;
-          packs = refl;
-          bad = λ q h. absurd (call-clash z b q (rows b (z .most)) h (call-rows z b (accepted-zero j e)));
-          issued = λ n t u l h. subst (λ (x : List ℕ). Issued z x a d out r o) (table-one n t u l h) (issued-met z table a d out);
-        }
-        at false e = record {
-          answer = bare;
-          packs = refl;
-          bad = λ q h. let f = call-bad z b q h in (ap (λ (x : Judgement). x .number) f, ap (λ (x : Judgement). x .place) f, zeros j, refl);
-          issued = λ n t u l h. let f = call-refuses z b (refused-not j e) in absurd (call-clash z b (f .0) n (f .1) u);
-        }
+        at : (c : Bool) → accepted j ≡ c → Loaded z b a d out (cond c r (cond c bare bare)) (cond c o out)
+        at true e = loaded-good r o (accepted-zero j e) (issued-met z table a d out)
+        at false e = loaded-bad bare (refused-not j e) refl refl (zeros j)
 
-    pub called-only : (m n : ℕ) (o p : List ℕ) → Called z b a d out m o → Called z b a d out n p → (m ≡ n) × (o ≡ p)
-    called-only m n o p h k = at (ℕ-discrete (callJudgement b z .number) 0)
+    pub loaded-only : (r s : Answer) (o p : List ℕ) → Loaded z b a d out r o → Loaded z b a d out s p → (r ≡ s) × (o ≡ p)
+    loaded-only r s o p h k = at (ℕ-discrete (callJudgement b z .number) 0)
       where
-        packs : (h .answer ≡ k .answer) × (o ≡ p) → (m ≡ n) × (o ≡ p)
-        packs e = (h .packs ∙ ap packed (e .0) ∙ sym (k .packs), e .1)
-
-        at : Dec (callJudgement b z .number ≡ 0) → (m ≡ n) × (o ≡ p)
+        at : Dec (callJudgement b z .number ≡ 0) → (r ≡ s) × (o ≡ p)
         at (yes e) =
             let u = call-rows z b e in
-            let v : Holds b (rows b (z .most)) table = subst (Holds b (rows b (z .most))) (append-nil table) (entries-hold b (rows b (z .most)) []) in
             let l = entries-length b (rows b (z .most)) in
-            packs (issued-only z table a d out (h .answer) (k .answer) o p (h .issued (rows b (z .most)) table u l v) (k .issued (rows b (z .most)) table u l v))
+            issued-only z table a d out r s o p (h .issued (rows b (z .most)) table u l table-held) (k .issued (rows b (z .most)) table u l table-held)
         at (no e) =
             let f = call-refuses z b e in
             let x = h .bad (f .0) (f .1) in
             let y = k .bad (f .0) (f .1) in
-            packs (blank-same (x .0 ∙ sym (y .0), x .1 ∙ sym (y .1)) (x .2) (y .2), x .3 ∙ sym (y .3))
+            (blank-same (x .0 ∙ sym (y .0), x .1 ∙ sym (y .1)) (x .2) (y .2), x .3 ∙ sym (y .3))
 
--- ---- the parts of the packed number
+-- ---- a packed answer: what no second answer satisfies, no second number does
 
--- of a success: 8 bits, distance (8), count (24), tries (24)
-pub packed-parts : (r : Answer) → r .number ≡ 0 → r .distance < 2 ^ 8 → r .count < 2 ^ 24
-    → let n = packed r in (n % 2 ^ 8 ≡ 0) × (n / 2 ^ 8 % 2 ^ 8 ≡ r .distance) × (n / 2 ^ 16 % 2 ^ 24 ≡ r .count) × (n / 2 ^ 40 ≡ r .tries)
-unfolding packed
-packed-parts r e d c =
-    let n = packed r in
-    let f : n ≡ 2 ^ 8 * (r .distance + 2 ^ 8 * (r .count + 2 ^ 24 * r .tries)) = at (eqb (r .number) 0) refl in
-    let g : n / 2 ^ 16 ≡ r .tries * 2 ^ 24 + r .count = omega arith in
-    (omega arith, omega arith, ap (λ (x : ℕ). x % 2 ^ 24) g ∙ low (r .tries) 24 c, omega arith)
-  where
-    at : (b : Bool) → eqb (r .number) 0 ≡ b → r .number + 2 ^ 8 * cond b (r .distance + 2 ^ 8 * (r .count + 2 ^ 24 * r .tries)) (r .place) ≡ 2 ^ 8 * (r .distance + 2 ^ 8 * (r .count + 2 ^ 24 * r .tries))
-    at true h = omega arith
-    at false h = absurd (subst T h (eq-T (r .number) 0 e))
-
--- of a refusal: its number and place
-pub packed-refusal : (r : Answer) → ¬ (r .number ≡ 0) → r .number < 2 ^ 8 → let n = packed r in (n % 2 ^ 8 ≡ r .number) × (n / 2 ^ 8 ≡ r .place)
-unfolding packed
-packed-refusal r e l =
-    let n = packed r in
-    let f : n ≡ r .number + 2 ^ 8 * r .place = at (eqb (r .number) 0) refl in
-    (omega arith, omega arith)
-  where
-    at : (b : Bool) → eqb (r .number) 0 ≡ b → r .number + 2 ^ 8 * cond b (r .distance + 2 ^ 8 * (r .count + 2 ^ 24 * r .tries)) (r .place) ≡ r .number + 2 ^ 8 * r .place
-    at true h = absurd (e (eqb→eq (r .number) 0 (T-true h)))
-    at false h = refl
+pub packs-only : {A : Type 0} (pack : A → ℕ) (P Q : A → Type 0) (R : Type 0) → ((x y : A) → P x → Q y → (x ≡ y) × R)
+    → (m n : ℕ) → Packs pack P m → Packs pack Q n → (m ≡ n) × R
+packs-only pack P Q R one m n h k =
+    let e = one (h .answer) (k .answer) (h .so) (k .so) in (h .is ∙ ap pack (e .0) ∙ sym (k .is), e .1)
 
 -- ---- the line of a pair
 

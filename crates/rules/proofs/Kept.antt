@@ -41,7 +41,7 @@ module _ (z : Sizes) (t : List ℕ) where
 
   module _ (a d : ℕ) where
     -- where 0 is said, the pair is joined
-    joins : (rs : List Refusal) → Placed rs → (j : Judgement) → Told (ofPair z t a d ++ rs) j → j .number ≡ 0 → Joined z t a d × Clear rs
+    pub joins : (rs : List Refusal) → Placed rs → (j : Judgement) → Told (ofPair z t a d ++ rs) j → j .number ≡ 0 → Joined z t a d × Clear rs
     joins rs l j h e = clear-joined z t a d rs (says-clear (ofPair z t a d ++ rs) (pair-placed z t a d rs l) (j .number) (j .place) h e)
 
     far-away : Joined z t a d → (s : ℕ) → Stands z t a s → Distance (farOf z t) s d (distance z t a d)

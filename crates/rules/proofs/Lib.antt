@@ -1,5 +1,6 @@
 pub mod SetLaws
 pub mod Counts
+pub mod Laid
 pub mod Ways
 pub mod Stages
 pub mod Widest
@@ -10,6 +11,7 @@ pub mod Pair
 pub mod Says
 pub mod Tables
 pub mod Homes
+pub mod Few
 pub mod Joined
 pub mod Lists
 pub mod Kept
@@ -17,10 +19,12 @@ pub mod Only
 pub mod FieldLaws
 pub mod FieldPromises
 pub mod Doors
+pub mod Packed
 pub mod Ports
 pub mod Walks
 pub mod WalkPromise
 pub mod Counted
 pub mod Prints
+pub mod Texts
 pub mod Demands
 pub mod Cases

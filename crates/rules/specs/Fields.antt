@@ -1,19 +1,17 @@
 -- House fields: a one-byte tag, a two-byte length and the value, numbers with the most significant byte first. What the field reader and
--- the C call promise. Assumes nothing.
+-- header issue over fields promise. Assumes nothing.
 --
 --   two b i             the two-byte number at offset i
 --   Field b tag n i     a whole field of this tag and length stands at offset i
 --   Upto b z k p i      k fields of tag 1 and then p of tag 2 stand whole at the start, and end at offset i
 --   Next b z k p i      a field that may follow them stands at i
 --   Holds b k t         t begins with the entries of the first k fields
---   Filled z b out r o  the promise of the field reader          Called z b a d out n o   the promise of the C call
-use Prim.Native.Nat.{ℕ, _+_, _*_, _/_, _%_, _^_, _≤_, _<_}
+--   Filled z b out r o  the promise of the field reader          Loaded z b a d out r o   that of header issue over the fields of tag 1
+use Prim.Native.Nat.{ℕ, _+_, _*_, _/_, _%_, _≤_, _<_}
 use mathlib.Core.Path.{_≡_}
 use mathlib.Core.Logic.{_⊎_}
-use mathlib.Core.Bool.{cond}
 use mathlib.Core.List.{List, [], _∷_}
 use lib.ListN.{length, getD, drop}
-use lib.Dec.{eqb}
 use Rattle.rules.specs.declared.Answer.{Answer}
 use Rattle.rules.specs.declared.FieldAnswer.{FieldAnswer}
 use Rattle.rules.specs.Table.{Sizes}
@@ -73,14 +71,7 @@ pub record Filled (z : Sizes) (b out : List ℕ) (r : FieldAnswer) (o : List ℕ
   pub entries : r .number ≡ 0 → Holds b (r .switches) o
   pub kept : r .number ≡ 0 → (length o ≡ length out) × (drop (8 * r .switches) o ≡ drop (8 * r .switches) out)
 
--- 01: "the refusal number in the lowest 8 bits; above it, on refusal the place, on success, going upwards, the distance (8 bits), count
--- (24) and tries (24)"
-unfoldable pub packed : Answer → ℕ
-packed r = r .number + 2 ^ 8 * cond (eqb (r .number) 0) (r .distance + 2 ^ 8 * (r .count + 2 ^ 24 * r .tries)) (r .place)
-
--- 01: the loader "calls header issue with numbers and byte slices: tag 1 fields, two processors, an output"
-pub record Called (z : Sizes) (b : List ℕ) (a d : ℕ) (out : List ℕ) (n : ℕ) (o : List ℕ) : Type 0 where
-  pub answer : Answer
-  pub packs : n ≡ packed answer
-  pub bad : (q : ℕ) → badRow b z .given q → (answer .number ≡ 12) × (answer .place ≡ q) × Blank answer × (o ≡ out)
-  pub issued : (k : ℕ) (t : List ℕ) → Upto b z k 0 (length b) → length t ≡ 8 * k → Holds b k t → Issued z t a d out answer o
+-- 01: the loader "calls header issue with numbers and byte slices: tag 1 fields, two processors, an output. There a tag 2 is bad."
+pub record Loaded (z : Sizes) (b : List ℕ) (a d : ℕ) (out : List ℕ) (r : Answer) (o : List ℕ) : Type 0 where
+  pub bad : (q : ℕ) → badRow b z .given q → (r .number ≡ 12) × (r .place ≡ q) × Blank r × (o ≡ out)
+  pub issued : (k : ℕ) (t : List ℕ) → Upto b z k 0 (length b) → length t ≡ 8 * k → Holds b k t → Issued z t a d out r o

@@ -9,9 +9,12 @@ pub mod Promise
 pub mod Walk
 pub mod Fields
 pub mod Print
+pub mod Pack
+pub mod Text
 pub mod Look
 pub mod RunTable
 pub mod RunPair
 pub mod RunWalk
 pub mod RunFields
+pub mod RunText
 pub mod Cases

@@ -56,12 +56,3 @@ pub record Walked (z : Sizes) (t : List ℕ) (a : ℕ) (ws cs : List ℕ) (r : W
   pub answer : Says (ofTable z t ++ (plain 4 (¬ (Attached z t a)) ∷ tooLong ws ∷ tooFew ws cs ∷ [])) (r .number) (r .place)
   pub refused : ¬ (r .number ≡ 0) → (r .ending ≡ None) × (r .at ≡ 0) × (r .hops ≡ 0) × (r .left ≡ 0)
   pub walked : r .number ≡ 0 → (s : ℕ) → Stands z t a s → Ended (farOf z t) ws cs s (r .ending) (r .at) (r .hops) (r .left)
-
--- 01's name for each ending, as the number that the C library gives; NONE is 0
-unfoldable pub endingNumber : Ending → ℕ
-endingNumber None = 0
-endingNumber Delivered = 1
-endingNumber Leftover = 2
-endingNumber Empty = 3
-endingNumber Off = 4
-endingNumber Short = 5

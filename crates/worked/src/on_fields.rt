@@ -156,7 +156,7 @@ fn read(what: &[u8], f: [u8; 1300], len: usize, lent: usize) {
     number(half(t[512]));
     number(half(t[599]));
     say(b" :");
-    number(ends.source);
-    number(ends.target);
+    number(half(ends.source));
+    number(half(ends.target));
     say(b"\n");
 }

@@ -30,22 +30,16 @@ add-word c = search needs
 word-requires : tie.Need-word-requires
 word-requires c κs = search needs
 
-number-requires : tie.Need-number-requires
-number-requires c κs = search needs
-
 add-word-2 : tie.Need-add-word-2
 add-word-2 c = search needs
 
 word-requires-2 : tie.Need-word-requires-2
 word-requires-2 c κs = search needs
 
-number-requires-2 : tie.Need-number-requires-2
-number-requires-2 c κs = search needs
-
 returns-3 : tie.Need-returns-3
 unfolding pairAt
 returns-3 c =
-    let s = c .before .before .before .before .before .before .before .args in
+    let s = c .before .before .before .before .before .args in
     simp (le-leb (s .at + 7) (length (now (s .bytes))) (omega arith)) cc
 
 pub pair-spec : {M : Type 1} → statement M
@@ -57,8 +51,6 @@ pair-spec =
     returns-2
     add-word
     word-requires
-    number-requires
     add-word-2
     word-requires-2
-    number-requires-2
     returns-3)
