@@ -1,173 +1,140 @@
--- The next choice among the ports: a number with a port outside has it up to the next multiple of that port's bit, so the jump to that
--- multiple passes no choice, and past the ports there is none. Assumes nothing.
-use Prim.Native.Nat.{ℕ, _+_, _*_, _-_, _/_, _%_, _^_, _≤_, _<_}
-use native.Mathlib.Nat.{le-refl, le-trans, le-of-eq, le-antisymm, le-of-suc-le-suc, mul-le-mul-right, div-lt-iff-lt-mul, mod-eq-of-lt}
-use native.Mathlib.Numerals.{add-one}
+-- The step from a choice w among the ports c to the next. With the ports outside filled in, d, one more carries over them into the next port
+-- of c, and no choice lies between. Assumes nothing.
+use Prim.Native.Nat.{ℕ, zero, suc, _+_, _*_, _-_, _/_, _%_, _^_, _≤_, _<_, min, max}
+use native.Mathlib.Nat.{le-refl, le-trans, le-of-eq, pow-suc}
 use native.Mathlib.Decide.{decLt}
 use native.Mathlib.Omega.{arith}
 use mathlib.Core.Path.{_≡_, refl, sym, ap, _∙_, subst}
-use mathlib.Core.Logic.{⊎-elim}
-use mathlib.Core.Bool.{Bool, true, false, cond, not}
-use lib.Dec.{T, eqb, ltb, eqb→eq, lt→ltb, T-not}
-use lib.Bits.{bitAnd, and-le-l, and-le-r}
-use lib.Count.{trailingZeros}
-use lib.Pow.{pow-pos, pow-add, shr-lt, shr-mono}
-use Rattle.rules.specs.Sets.{has, all, within}
+use mathlib.Core.Bool.{Bool, true, false, _||_}
+use lib.Dec.{T, eqb, ltb, eqb→eq, lt→ltb}
+use lib.Bits.{bitAnd, bitOr, and-step, or-step, or-add-and, or-disjoint, and-le-r, and-zero-l}
+use Rattle.rules.specs.Sets.{has, within}
 use Rattle.rules.specs.Tries.{choice}
-use Rattle.rules.proofs.SetLaws.{T-and, and-i, T-true, dec-T, all-at, has-nothing, has-and, in-within, least-is, least-one}
+use Rattle.rules.proofs.SetLaws.{T-and, and-i, T-true, true-T, eq-T, same, has-and, has-or, in-within, least-is, least-one}
 use Rattle.header.specs.Found.{nextChoice}
-use Rattle.header.proofs.LeafLaws.{member-lt}
-use Rattle.header.proofs.ScanLaws.{first-is}
 
--- ---- the ports outside: one computed test
+-- ---- the parts of a number inside c and outside, in d
 
-unfoldable flips : ℕ → ℕ → Bool
-flips c p = cond (has p c) (not (has p (255 - c))) (has p (255 - c))
+parts : (n x c d : ℕ) → x < 2 ^ n → suc (c + d) ≡ 2 ^ n → bitAnd x c + bitAnd x d ≡ x
+parts zero x c d l e = let z : x ≡ 0 = omega arith in rw (z, and-zero-l c, and-zero-l d)
+parts (suc n) x c d l e =
+    let two = pow-suc 2 n in
+    let odd : c % 2 + d % 2 ≡ 1 = omega arith in
+    let low : min (x % 2) (c % 2) + min (x % 2) (d % 2) ≡ x % 2 = omega arith in
+    let ih = parts n (x / 2) (c / 2) (d / 2) (omega arith) (omega arith) in
+    let i = and-step x c in
+    let j = and-step x d in
+    sum i j low ih
+  where
+    sum : bitAnd x c ≡ bitAnd (x / 2) (c / 2) * 2 + min (x % 2) (c % 2) → bitAnd x d ≡ bitAnd (x / 2) (d / 2) * 2 + min (x % 2) (d % 2)
+        → min (x % 2) (c % 2) + min (x % 2) (d % 2) ≡ x % 2 → bitAnd (x / 2) (c / 2) + bitAnd (x / 2) (d / 2) ≡ x / 2 → bitAnd x c + bitAnd x d ≡ x
+    sum i j k h = omega arith
 
-flips-table : T (all 256 (λ c. all 8 (flips c)))
-unfolding all flips has
-flips-table = tt
+-- ---- the carry
 
-module _ (c p : ℕ) (byte : c < 256) where
-  flips-at : p < 8 → T (flips c p)
-  flips-at l = all-at 8 (flips c) (all-at 256 (λ c. all 8 (flips c)) flips-table c byte) p l
+-- above e, which holds d, the least number that holds d
+carry : (n d e y : ℕ) → y < 2 ^ n → bitOr e d ≡ e → bitOr y d ≡ y → e < y → bitOr (suc e) d ≤ y
+carry zero d e y l p q h = absurd (omega arith)
+carry (suc n) d e y l p q h =
+    let two = pow-suc 2 n in
+    let i = or-step e d in
+    let j = or-step y d in
+    at (decLt 0 (e % 2)) (carry n (d / 2) (e / 2) (y / 2) (omega arith) (omega arith) (omega arith))
+  where
+    at : Dec (0 < e % 2) → (e / 2 < y / 2 → bitOr (suc (e / 2)) (d / 2) ≤ y / 2) → bitOr (suc e) d ≤ y
+    at (yes o) ih =
+        let half : suc e / 2 ≡ suc (e / 2) = omega arith in
+        let k = or-step (suc e) d ∙ ap (λ (x : ℕ). bitOr x (d / 2) * 2 + max (suc e % 2) (d % 2)) half in
+        omega (arith, ih (omega arith), or-step y d)
+    at (no o) ih =
+        let half : suc e / 2 ≡ e / 2 = omega arith in
+        let k = or-step (suc e) d ∙ ap (λ (x : ℕ). bitOr x (d / 2) * 2 + max (suc e % 2) (d % 2)) half in
+        omega (arith, or-step e d)
 
-  outside-has : p < 8 → (T (has p c) → ⊥) → T (has p (255 - c))
-  unfolding flips
-  outside-has l h = at (has p c) refl (flips-at l)
-    where
-      at : (b : Bool) → has p c ≡ b → T (cond b (not (has p (255 - c))) (has p (255 - c))) → T (has p (255 - c))
-      at true e t = absurd (h (T-true e))
-      at false e t = t
-
-  outside-lacks : T (has p (255 - c)) → T (has p c) → ⊥
-  unfolding flips
-  outside-lacks h i = at (has p c) refl (flips-at (member-lt 8 (255 - c) p (omega arith) h))
-    where
-      at : (b : Bool) → has p c ≡ b → T (cond b (not (has p (255 - c))) (has p (255 - c))) → ⊥
-      at true e t = T-not (has p (255 - c)) t h
-      at false e t = subst T e i
-
-choice-le : (v c : ℕ) → T (choice v c) → v ≤ c
-unfolding choice within
-choice-le v c h = le-trans (le-of-eq (sym (eqb→eq (bitAnd v c) v (T-and (ltb 0 v) (eqb (bitAnd v c) v) h .1)))) (and-le-r v c)
-
-choice-has : (v c p : ℕ) → T (choice v c) → T (has p v) → T (has p c)
+pub choice-part : (w c : ℕ) → T (choice w c) → within w c ≡ true
 unfolding choice
-choice-has v c p h = in-within v c .0 (T-and (ltb 0 v) (within v c) h .1) p
+choice-part w c h = true-T (within w c) (T-and (ltb 0 w) (within w c) h .1)
 
--- ---- the jump
+pub none-part : (c : ℕ) → within 0 c ≡ true
+unfolding within
+none-part c = true-T (eqb (bitAnd 0 c) 0) (eq-T (bitAnd 0 c) 0 (and-zero-l c))
 
-jump : ℕ → ℕ → ℕ
-jump w k = (w / 2 ^ k + 1) * 2 ^ k
+pub part-le : (w c : ℕ) → within w c ≡ true → w ≤ c
+unfolding within
+part-le w c e = le-trans (le-of-eq (sym (eqb→eq (bitAnd w c) w (T-true e)))) (and-le-r w c)
 
-module _ (w k : ℕ) where
-  jump-block : (v : ℕ) → w ≤ v → v < jump w k → v / 2 ^ k ≡ w / 2 ^ k
-  unfolding jump
-  jump-block v l h = le-antisymm (le-of-suc-le-suc (le-trans (div-lt-iff-lt-mul (pow-pos k) .1 h) (le-of-eq (add-one (w / 2 ^ k))))) (shr-mono k l)
+-- ---- the step
 
-  jump-past : w < jump w k
-  unfolding jump
-  jump-past = div-lt-iff-lt-mul (pow-pos k) .0 (le-of-eq (sym (add-one (w / 2 ^ k))))
+-- x, where no choice from v on lies below it
+least-choice : (v c x : ℕ) → v ≤ x → x ≤ 256 → ((u : ℕ) → v ≤ u → u < x → T (choice u c) → ⊥) → (x < 256 → T (choice x c)) → x ≡ nextChoice v c
+unfolding nextChoice
+least-choice v c x low high none hit =
+    let e : v + (x - v) ≡ x = omega arith in
+    sym e ∙ ap (λ (k : ℕ). v + k) (least-one (record {
+      bound = omega arith;
+      before = λ j l. none (v + j) (omega arith) (omega arith);
+      hit = λ l. subst (λ (u : ℕ). T (choice u c)) (sym e) (hit (omega arith));
+    }) (least-is (256 - v) (λ k. choice (v + k) c)))
 
-  jump-byte : w < 256 → k < 8 → jump w k ≤ 256
-  unfolding jump
-  jump-byte l h =
-      let e : 8 - k + k ≡ 8 = omega arith in
-      let less : w < 2 ^ (8 - k + k) = subst (λ (x : ℕ). w < 2 ^ x) (sym e) l in
-      le-trans (mul-le-mul-right (2 ^ k) (le-trans (le-of-eq (add-one (w / 2 ^ k))) (shr-lt (8 - k) k less)))
-      (le-of-eq (sym (pow-add 2 (8 - k) k) ∙ ap (λ (x : ℕ). 2 ^ x) e))
+module _ (w c : ℕ) (byte : c < 256) where
+  -- all ports are the last choice
+  pub step-last : w ≡ c → 256 ≡ nextChoice (w + 1) c
+  step-last e = least-choice (w + 1) c 256 (omega arith) (le-refl 256)
+      (λ u l _ h. let k = part-le u c (choice-part u c h) in omega arith) (λ h. absurd (omega arith))
 
--- ---- the scan of the numbers
+  module _ (part : within w c ≡ true) (more : w ≡ c → ⊥) where
+    d : ℕ
+    d = 255 - c
 
--- no number at or above `first` and below w is a choice
-pub record Passed (first c w : ℕ) : Type 0 where
-  pub byte : c < 256
-  pub some : 1 ≤ first
-  pub low : first ≤ w
-  pub high : w ≤ 256
-  pub none : (v : ℕ) → first ≤ v → v < w → T (choice v c) → ⊥
+    filled : (v : ℕ) → within v c ≡ true → bitOr v d ≡ v + d
+    unfolding within d
+    filled v e =
+        let i = eqb→eq (bitAnd v c) v (T-true e) in
+        let p = parts 8 v c (255 - c) (let l = part-le v c e in omega arith) (omega arith) in
+        or-disjoint v (255 - c) (omega arith)
 
--- w has port k outside c, and the next multiple of that port's bit is passed to
-pub record Jumps (first c w k : ℕ) : Type 0 where
-  pub port : k < 8
-  pub past : w < (w / 2 ^ k + 1) * 2 ^ k % 2 ^ 16
-  pub passed : Passed first c ((w / 2 ^ k + 1) * 2 ^ k % 2 ^ 16)
+    twice : (v : ℕ) → bitOr (bitOr v d) d ≡ bitOr v d
+    twice v = same (bitOr (bitOr v d) d) (bitOr v d) (λ s. has-or s (bitOr v d) d ∙ ap (λ (b : Bool). b || has s d) (has-or s v d) ∙ at (has s v) (has s d) ∙ sym (has-or s v d))
+      where
+        at : (a b : Bool) → ((a || b) || b) ≡ (a || b)
+        at true b = refl
+        at false true = refl
+        at false false = refl
 
-module _ {first c : ℕ} where
-  -- the least choice is w
-  least-choice : {w : ℕ} → Passed first c w → (w < 256 → T (choice w c)) → w ≡ nextChoice first c
-  unfolding nextChoice
-  least-choice {w} passed hit =
-      let low = passed .low in
-      let high = passed .high in
-      let e : first + (w - first) ≡ w = omega arith in
-      sym e ∙ ap (λ (k : ℕ). first + k) (least-one (record {
-        bound = omega arith;
-        before = λ j l. passed .none (first + j) (omega arith) (omega arith);
-        hit = λ l. subst (λ (v : ℕ). T (choice v c)) (sym e) (hit (omega arith));
-      }) (least-is (256 - first) (λ k. choice (first + k) c)))
+    a : ℕ
+    a = suc (bitOr w d)
 
-  module _ {w : ℕ} (passed : Passed first c w) where
-    pub choice-hit : w ≤ c → bitAnd w (255 - c) ≡ 0 → w ≡ nextChoice first c
+    -- the part of it inside, and the ports outside
+    inside : (a ≡ w + 256 - c) × (bitAnd a c + d ≡ bitOr a d)
+    unfolding a d
+    inside =
+        let l = part-le w c part in
+        let f = filled w part in
+        let e : suc (bitOr w (255 - c)) ≡ w + 256 - c = omega arith in
+        let p = parts 8 (suc (bitOr w (255 - c))) c (255 - c) (omega arith) (omega arith) in
+        let q = or-add-and (suc (bitOr w (255 - c))) (255 - c) in
+        (e, omega arith)
+
+    above : w < bitAnd a c
+    unfolding a d
+    above =
+        let f = filled w part in
+        let q = or-add-and (suc (bitOr w (255 - c))) (255 - c) in
+        let r = and-le-r (suc (bitOr w (255 - c))) (255 - c) in
+        omega (arith, inside .1)
+
+    first : (v : ℕ) → T (choice v c) → w < v → bitAnd a c ≤ v
+    unfolding a d
+    first v h l =
+        let k = part-le v c (choice-part v c h) in
+        let f = filled w part in
+        let g = filled v (choice-part v c h) in
+        let i = carry 8 (255 - c) (bitOr w (255 - c)) (bitOr v (255 - c)) (omega arith) (twice w) (twice v) (omega arith) in
+        omega (arith, inside .1)
+
+    pub step-next : bitAnd (w + 256 - c) c ≡ nextChoice (w + 1) c
     unfolding choice
-    choice-hit l z =
-        least-choice passed (λ _. and-i (ltb 0 w) (within w c) (lt→ltb 0 w (let low = passed .low in let some = passed .some in omega arith)) (in-within w c .1 inside))
-      where
-        inside : (p : ℕ) → T (has p w) → T (has p c)
-        inside p h =
-            let byte = passed .byte in
-            ⊎-elim (λ i. i)
-            (λ i. absurd (subst T (ap (has p) z ∙ has-nothing p) (subst T (sym (has-and p w (255 - c)))
-            (and-i (has p w) (has p (255 - c)) h (outside-has c p byte (member-lt 8 w p (omega arith) h) i)))))
-            (dec-T (has p c))
-
-    pub choice-past : c < w → 256 ≡ nextChoice first c
-    choice-past l = least-choice (record {
-      byte = passed .byte;
-      some = passed .some;
-      low = let low = passed .low in let high = passed .high in omega arith;
-      high = le-refl 256;
-      none = λ v i j. at v i (decLt v w);
-    }) (λ h. absurd (omega arith))
-      where
-        at : (v : ℕ) → first ≤ v → Dec (v < w) → T (choice v c) → ⊥
-        at v i (yes m) h = passed .none v i m h
-        at v i (no m) h = let k = choice-le v c h in omega arith
-
-    module _ (l : w ≤ c) (some : bitAnd w (255 - c) ≡ 0 → ⊥) where
-      k : ℕ
-      k = trailingZeros 16 (bitAnd w (255 - c))
-
-      here : T (has k w) × T (has k (255 - c))
-      unfolding k
-      here =
-          T-and (has k w) (has k (255 - c)) (subst T (has-and k w (255 - c))
-          (first-is 16 (bitAnd w (255 - c)) (let b = passed .byte in let m = and-le-l w (255 - c) in omega arith) some .here))
-
-      port-lt : k < 8
-      port-lt = member-lt 8 w k (let b = passed .byte in omega arith) (here .0)
-
-      jump-exact : (w / 2 ^ k + 1) * 2 ^ k % 2 ^ 16 ≡ jump w k
-      unfolding jump
-      jump-exact = mod-eq-of-lt (let h = jump-byte w k (let b = passed .byte in omega arith) port-lt in omega arith)
-
-      pub choice-on : Jumps first c w (trailingZeros 16 (bitAnd w (255 - c)))
-      unfolding has k
-      choice-on = record {
-        port = port-lt;
-        past = subst (λ (x : ℕ). w < x) (sym jump-exact) (jump-past w k);
-        passed = subst (λ (x : ℕ). Passed first c x) (sym jump-exact) (record {
-          byte = passed .byte;
-          some = passed .some;
-          low = let p = jump-past w k in let q = passed .low in omega arith;
-          high = jump-byte w k (let b = passed .byte in omega arith) port-lt;
-          none = λ v i j. at v i j (decLt v w);
-        });
-      }
-        where
-          at : (v : ℕ) → first ≤ v → v < jump w k → Dec (v < w) → T (choice v c) → ⊥
-          at v i j (yes m) h = passed .none v i m h
-          at v i j (no m) h =
-              outside-lacks c k (passed .byte) (here .1)
-              (choice-has v c k h (subst (λ (x : ℕ). T (eqb (x % 2) 1)) (sym (jump-block w k v (omega arith) j)) (here .0)))
+    step-next = subst (λ (x : ℕ). bitAnd x c ≡ nextChoice (w + 1) c) (inside .0) (least-choice (w + 1) c (bitAnd a c)
+        (omega (arith, above)) (let m = and-le-r a c in omega arith) (λ u l k h. let m = first u h (omega arith) in omega arith)
+        (λ _. and-i (ltb 0 (bitAnd a c)) (within (bitAnd a c) c) (lt→ltb 0 (bitAnd a c) (omega (arith, above)))
+        (in-within (bitAnd a c) c .1 (λ s h. T-and (has s a) (has s c) (subst T (has-and s a c) h) .1))))

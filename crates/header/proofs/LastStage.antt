@@ -28,7 +28,7 @@ pub choice-some : (w c : ℕ) → T (choice w c) → zero < w
 unfolding choice
 choice-some w c h = ltb→lt 0 w (T-and (ltb 0 w) (within w c) h .0)
 
-choice-in : (w c s : ℕ) → T (choice w c) → T (has s w) → T (has s c)
+pub choice-in : (w c s : ℕ) → T (choice w c) → T (has s w) → T (has s c)
 unfolding choice
 choice-in w c s h = in-within w c .0 (T-and (ltb 0 w) (within w c) h .1) s
 

@@ -5,7 +5,7 @@ use native.Mathlib.Nat.{le-refl, not-suc-le-zero, lt-of-not-le, lt-of-lt-of-le}
 use native.Mathlib.Numerals.{add-one}
 use native.Mathlib.Omega.{arith}
 use borrow.Author.Tests.{ne-eqb}
-use mathlib.Core.Path.{_≡_, refl, sym, subst}
+use mathlib.Core.Path.{_≡_, refl, sym, ap, _∙_, subst}
 use mathlib.Core.Logic.{_↔_, ⊎-elim}
 use mathlib.Core.Bool.{Bool, true, false, cond, _||_, not}
 use mathlib.Core.List.{List}
@@ -16,7 +16,7 @@ use lib.Pow.{pow-mono}
 use Rattle.rules.specs.Sets.{has, all}
 use Rattle.rules.specs.Net.{Far, switch, Wired}
 use Rattle.rules.specs.Tries.{common, reach}
-use Rattle.rules.proofs.SetLaws.{T-if, T-or, or-l, or-r, T-true, same-T, same, lt-cases, all-at, all-yes, in-setOf, has-small, has-nothing, has-or, has-single}
+use Rattle.rules.proofs.SetLaws.{T-if, T-or, or-l, or-r, T-true, true-T, same-T, same, lt-cases, all-at, all-yes, in-setOf, has-small, has-nothing, has-or, has-single}
 use Rattle.rules.proofs.Lists.{getD-tabulate}
 use Rattle.rules.proofs.Search.{in-reach}
 use Rattle.header.specs.Found.{singles, joined}
@@ -72,6 +72,10 @@ in-joined sets w (suc k) t = at (has k w) refl (in-joined sets w k t)
       λ h. i .1 (h .0, ⊎-elim (λ q. absurd (subst T e (subst (λ (p : ℕ). T (has p w)) q (h .2)))) (λ l. l) (lt-cases (h .1)), h .2, h .3),
     )
 
+pub singles-at : (far : ℕ → ℕ → Far) (size m c p : ℕ) → p < 8 → getD (singles far size m c) p 0 ≡ cond (has p c) (reach far size m (2 ^ p)) 0
+unfolding singles
+singles-at far size m c p l = getD-tabulate 8 (λ p. cond (has p c) (reach far size m (2 ^ p)) 0) p 0 l
+
 module _ (far : ℕ → ℕ → Far) (size : ℕ) (wired : Wired far size) where
   pub port-lt : {s p t : ℕ} → far s p ≡ switch t → p < 8
   port-lt {s} {p} e = wired .inside s p (λ n. let z : _≡_ {A = ℕ} 0 1 = cc in omega arith) .1
@@ -86,20 +90,23 @@ module _ (far : ℕ → ℕ → Far) (size : ℕ) (wired : Wired far size) where
         (record { «from» = h .0; by = p; there = h .1; permitted = subst T (sym (has-single p p)) (eqb-refl p); link = h .2 }),
   )
 
-  pub joined-reach : (m w : ℕ) → joined (singles far size m) w 8 ≡ reach far size m w
-  unfolding singles
-  joined-reach m w =
-      same-members (joined (singles far size m) w 8) (reach far size m w)
-      (λ t h. let j = in-joined (singles far size m) w 8 t .0 h in
-      let r = in-single m (j .0) t .0 (subst (λ (x : ℕ). T (has t x)) (getD-tabulate 8 (λ p. reach far size m (2 ^ p)) (j .0) 0 (j .1)) (j .3)) in
+  single-at : (m c p : ℕ) → p < 8 → T (has p c) → getD (singles far size m c) p 0 ≡ reach far size m (2 ^ p)
+  single-at m c p l h = singles-at far size m c p l ∙ ap (λ (b : Bool). cond b (reach far size m (2 ^ p)) 0) (true-T (has p c) h)
+
+  -- the ports of a word that is within those followed
+  pub joined-reach : (m c w : ℕ) → ((p : ℕ) → T (has p w) → T (has p c)) → joined (singles far size m c) w 8 ≡ reach far size m w
+  joined-reach m c w i =
+      same-members (joined (singles far size m c) w 8) (reach far size m w)
+      (λ t h. let j = in-joined (singles far size m c) w 8 t .0 h in
+      let r = in-single m (j .0) t .0 (subst (λ (x : ℕ). T (has t x)) (single-at m c (j .0) (j .1) (i (j .0) (j .2))) (j .3)) in
       in-reach far size wired m w t .1 (record { «from» = r .0; by = j .0; there = r .1; permitted = j .2; link = r .2 }))
       (λ t h. let r = in-reach far size wired m w t .0 h in
       let l = port-lt (r .link) in
-      in-joined (singles far size m) w 8 t .1 (
+      in-joined (singles far size m c) w 8 t .1 (
         r .by,
         l,
         r .permitted,
-        subst (λ (x : ℕ). T (has t x)) (sym (getD-tabulate 8 (λ p. reach far size m (2 ^ p)) (r .by) 0 l))
+        subst (λ (x : ℕ). T (has t x)) (sym (single-at m c (r .by) l (i (r .by) (r .permitted))))
             (in-single m (r .by) t .1 (r .«from», r .there, r .link)),
       ))
 

@@ -2,9 +2,11 @@ pub mod ChoiceLaws
 pub mod LastStage
 pub mod LeafLaws
 pub mod ScanLaws
+pub mod FollowLaws
 pub mod Searching
 pub mod StageLaws
 pub mod StoreLaws
+pub mod KeptLaws
 pub mod WidestLaws
 pub mod Widths
 pub mod IssueLaws

@@ -1,26 +1,20 @@
 -- A scan over the members of a set, lowest first, by its trailing zeros: what is left is the set shifted past the members met, so none is
--- missed, and at 0 all were met. What the scan gathers, the common ports or each port's set, is told by the members met. Assumes nothing.
+-- missed, and at 0 all were met. What the scan gathers, here the common ports, is told by the members met. Assumes nothing.
 use Prim.Native.Nat.{ℕ, zero, suc, _+_, _-_, _/_, _%_, _^_, _≤_, _<_, zero-le, suc-le-suc}
 use native.Mathlib.Nat.{le-refl, not-suc-le-zero, le-of-suc-le-suc, lt-of-le-of-lt}
 use native.Mathlib.Decide.{decLt}
 use native.Mathlib.Omega.{arith}
 use mathlib.Core.Path.{_≡_, refl, sym, ap, _∙_, subst}
-use mathlib.Core.Logic.{_⊎_, inl, inr, _↔_, ⊎-elim}
+use mathlib.Core.Logic.{_⊎_, inl, inr, ⊎-elim}
 use mathlib.Core.Bool.{true}
-use mathlib.Core.List.{List}
-use lib.Dec.{T, eqb, eqb→eq}
-use lib.ListN.{length, getD, replicate, getD-replicate}
-use lib.Seq.{ext-getD}
+use lib.Dec.{T, eqb}
 use lib.Bits.{bitAnd}
 use lib.Count.{trailingZeros, under}
 use lib.Pow.{shr-shr, shr-le}
 use Rattle.rules.specs.Sets.{has, setOf}
-use Rattle.rules.specs.Net.{Far, switch, node, nothing, Wired}
-use Rattle.rules.specs.Tries.{common, reach}
-use Rattle.rules.proofs.SetLaws.{Least, least-under, member, T-and, and-i, T-or, or-l, or-r, T-true, eq-T, in-setOf, has-zero, has-suc, has-nothing, has-and, has-or, has-single}
-use Rattle.rules.proofs.Lists.{length-tabulate, getD-tabulate}
-use Rattle.header.specs.Found.{singles, linked, withLinks}
-use Rattle.header.proofs.LeafLaws.{same-members, member-lt, in-common, in-single}
+use Rattle.rules.specs.Tries.{common}
+use Rattle.rules.proofs.SetLaws.{Least, least-under, member, T-and, and-i, T-true, in-setOf, has-zero, has-suc, has-nothing, has-and}
+use Rattle.header.proofs.LeafLaws.{same-members, member-lt, in-common}
 
 -- ---- the lowest member
 
@@ -150,54 +144,3 @@ module _ (mask : ℕ → ℕ) (m : ℕ) where
       same-members ports (common 64 mask m)
       (λ p h. let o = c .out p h in in-common 64 mask m p (scan .wide) .1 (o .0, λ u t. o .1 u (scan-end scan z u t) t))
       (λ p h. let o = in-common 64 mask m p (scan .wide) .0 h in c .back p (o .0) (λ u l. o .1 u))
-
--- ---- each port's set
-
-in-linked : (x : Far) (m t : ℕ) → T (has t (linked x m)) ↔ (T (has t m) ⊎ (x ≡ switch t))
-unfolding linked
-in-linked (switch u) m t = (
-  λ h. ⊎-elim inl (λ k. inr (ap switch (sym (eqb→eq t u (subst T (has-single u t) k))))) (T-or (has t m) (has t (2 ^ u)) (subst T (has-or t m (2 ^ u)) h)),
-  λ h. subst T (sym (has-or t m (2 ^ u))) (⊎-elim (or-l (has t m) (has t (2 ^ u)))
-      (λ e. or-r (has t m) (has t (2 ^ u)) (subst T (sym (has-single u t)) (eq-T t u (cc)))) h),
-)
-in-linked (node a) m t = (inl, ⊎-elim (λ h. h) (λ e. let z : _≡_ {A = ℕ} 0 1 = cc in absurd (omega arith)))
-in-linked nothing m t = (inl, ⊎-elim (λ h. h) (λ e. let z : _≡_ {A = ℕ} 0 1 = cc in absurd (omega arith)))
-
--- each port's set is what the members met link to by that port
-pub record PortsTo (far : ℕ → ℕ → Far) (m s : ℕ) (sets : List ℕ) : Type 0 where
-  pub size : length sets ≡ 8
-  pub out : (p t : ℕ) → p < 8 → T (has t (getD sets p 0)) → (u : ℕ) × (u < s) × T (has u m) × (far u p ≡ switch t)
-  pub back : (p t u : ℕ) → p < 8 → u < s → T (has u m) → far u p ≡ switch t → T (has t (getD sets p 0))
-
-module _ (far : ℕ → ℕ → Far) (m : ℕ) where
-  pub ports-start : PortsTo far m 0 (replicate 8 0)
-  ports-start = record {
-    size = refl;
-    out = λ p t l h. absurd (subst T (ap (has t) (getD-replicate 8 p 0 0 l) ∙ has-nothing t) h);
-    back = λ p t u l k. absurd (not-suc-le-zero k);
-  }
-
-  pub ports-on : {s u : ℕ} {sets after : List ℕ} → Meets m s u → PortsTo far m s sets → after ≡ withLinks far u sets → PortsTo far m (u + 1) after
-  unfolding withLinks
-  ports-on {s} {u} {sets} {after} h c is = subst (λ (x : List ℕ). PortsTo far m (u + 1) x) (sym is) (record {
-    size = length-tabulate 8 to;
-    out = λ p t l k. ⊎-elim (λ a. let o = c .out p t l a in let b = o .1 in let z = h .later in (o .0, omega arith, o .2, o .3)) (λ e. (u, omega arith, h .here, e))
-        (in-linked (far u p) (getD sets p 0) t .0 (subst (λ (x : ℕ). T (has t x)) (getD-tabulate 8 to p 0 l) k));
-    back = λ p t j l k i e. subst (λ (x : ℕ). T (has t x)) (sym (getD-tabulate 8 to p 0 l)) (in-linked (far u p) (getD sets p 0) t .1
-        (⊎-elim (λ b. inl (c .back p t j l b i e)) (λ q. inr (subst (λ (x : ℕ). far x p ≡ switch t) q e)) (met h j k i)));
-  })
-    where
-      to : ℕ → ℕ
-      to p = linked (far u p) (getD sets p 0)
-
-  pub ports-all : {size s rest : ℕ} {sets : List ℕ} → Wired far size → Scan m rest s → rest ≡ 0 → PortsTo far m s sets → sets ≡ singles far size m
-  unfolding singles
-  ports-all {size} {s} {rest} {sets} wired scan z c =
-      ext-getD 0 sets (singles far size m) (c .size ∙ sym (length-tabulate 8 to)) (λ p k. let e = c .size in let l : p < 8 = omega arith in
-      same-members (getD sets p 0) (to p)
-      (λ t h. let o = c .out p t l h in in-single far size wired m p t .1 (o .0, o .2, o .3))
-      (λ t h. let o = in-single far size wired m p t .0 h in c .back p t (o .0) l (scan-end scan z (o .0) (o .1)) (o .1) (o .2))
-      ∙ sym (getD-tabulate 8 to p 0 l))
-    where
-      to : ℕ → ℕ
-      to p = reach far size m (2 ^ p)

@@ -1,4 +1,4 @@
--- The search as the code of `widest` makes it, over its values: what holds before the loop, and one law for each way through a turn.
+-- The search as the code of `seek` makes it, over its values: what holds before the loop, and one law for each way through a turn.
 -- Assumes nothing.
 use Prim.Native.Nat.{ℕ, suc, _+_, _-_, _^_, _≤_, _<_}
 use native.Mathlib.Omega.{arith}
@@ -6,17 +6,18 @@ use mathlib.Core.Path.{_≡_, sym, ap, ap₂, _∙_, subst}
 use mathlib.Core.Bool.{Bool, true, false}
 use mathlib.Core.List.{List}
 use lib.ListN.{getD}
-use lib.Dec.{ltb}
+use lib.Dec.{T, ltb}
 use borrow.Author.Tests.{le-ltb}
 use Rattle.rules.specs.Net.{Far}
 use Rattle.rules.specs.Table.{house, switches, farOf}
-use Rattle.rules.specs.Tries.{common, reach, reaches}
+use Rattle.rules.specs.Tries.{choice, common, reach, reaches}
 use Rattle.rules.proofs.SetLaws.{setOf-lt}
 use Rattle.rules.proofs.Tables.{farOf-wired}
 use Rattle.header.specs.declared.Found.{Found}
-use Rattle.header.specs.Found.{Searches, Stages, foundOf, lastFound, beyondFound, widerFound, nextChoice, singles, joined}
+use Rattle.header.specs.declared.Kept.{Kept}
+use Rattle.header.specs.Found.{Searches, Stages, Recalls, foundOf, lastFound, beyondFound, widerFound, nextChoice, singles, joined}
 use Rattle.header.proofs.LeafLaws.{common-size, joined-reach}
-use Rattle.header.proofs.LastStage.{found-last}
+use Rattle.header.proofs.LastStage.{choice-in, found-last}
 use Rattle.header.proofs.Widths.{best-fine, found-few}
 use Rattle.header.proofs.WidestLaws.{Turn, after, cost, rest, whole, whole-is, turn-start, full-at, over-at, take-at, end-at}
 
@@ -26,6 +27,21 @@ module _ (t ms : List ℕ) where
 
   abbrev mask : ℕ → ℕ
   mask s = getD ms s 0
+
+  -- what is kept at a stage with n words
+  abbrev Held : ℕ → Kept → Type 0
+  Held n k = Recalls far (switches t) mask n k
+
+  pub held-same : (n : ℕ) (j k : Kept) → j ≡ k → Held n k → Held n j
+  held-same n j k e h = subst (λ (x : Kept). Held n x) (sym e) h
+
+  -- what is kept of the two stages after one with n words
+  abbrev pub Memory : ℕ → Kept → Kept → Type 0
+  Memory n near after = Held (n - 1) near × Held (n - 1 - 1) after
+
+  -- what the search from the set m finds
+  abbrev pub Finds : ℕ → ℕ → ℕ → Found → Type 0
+  Finds m n budget r = r ≡ foundOf far (switches t) mask m n budget
 
   ports-common : (m ports : ℕ) → Stages t m → ports ≡ common 64 mask m → ports ≡ common (switches t) mask m
   unfolding switches
@@ -37,7 +53,7 @@ module _ (t ms : List ℕ) where
       pub searches : Searches t m left
       pub deep : left ≡ 1 → ⊥
       pub common-ports : ports ≡ common 64 mask m
-      pub port-sets : sets ≡ singles far (switches t) m
+      pub port-sets : sets ≡ singles far (switches t) m ports
 
     abbrev pub Search : Found → ℕ → ℕ → Type 0
     Search h k w = Turn ports (after far (switches t) mask m left) (cost far (switches t) mask m left) budget h k w
@@ -70,11 +86,11 @@ module _ (t ms : List ℕ) where
       pub full : (h : Found) (k w : ℕ) → Search h k w → w < 256 → k ≡ budget → (r : Found) → r ≡ beyondFound → r ≡ foundOf far (switches t) mask m left budget
       full h k w u l e r q = q ∙ full-at ports (after far (switches t) mask m left) (cost far (switches t) mask m left) budget h k w u l e ∙ is-whole
 
-      module _ (w word set : ℕ) (same : word ≡ w) (join : set ≡ joined sets word 8) where
+      module _ (w word set : ℕ) (chosen : T (choice w ports)) (same : word ≡ w) (join : set ≡ joined sets word 8) where
         is-reach : set ≡ reach far (switches t) m w
         is-reach =
-            join ∙ ap (λ (x : List ℕ). joined x word 8) (known .port-sets) ∙ joined-reach far (switches t) (farOf-wired house t) m word
-            ∙ ap (reach far (switches t) m) same
+            join ∙ ap₂ (λ (x : List ℕ) (y : ℕ). joined x y 8) (known .port-sets) same
+            ∙ joined-reach far (switches t) (farOf-wired house t) m ports w (λ p. choice-in w ports p chosen)
 
         -- the set reached is searched for a word less
         pub deeper : Searches t set (left - 1)

@@ -81,11 +81,11 @@ module _ (t : List ℕ) (mask : ℕ → ℕ) (start : ℕ) (header : List ℕ) w
       passing-outside n = stop (ap (choice w) (sym ports-are) ∙ choice-outside w ports n)
 
       pub passing-on : {n : ℕ} {sets : List ℕ} → (getD header i 0 ≡ 0 → ⊥) → bitAnd (getD header i 0) ports ≡ getD header i 0
-          → sets ≡ singles (farOf house t) (switches t) m → n ≡ joined sets (getD header i 0) 8 → Passing n (i + 1)
+          → sets ≡ singles (farOf house t) (switches t) m (getD header i 0) → n ≡ joined sets (getD header i 0) 8 → Passing n (i + 1)
       unfolding w
       passing-on {n} {sets} some inside by to =
           let reached : n ≡ reach (farOf house t) (switches t) m w =
-          to ∙ ap (λ (x : List ℕ). joined x w 8) by ∙ joined-reach (farOf house t) (switches t) (farOf-wired house t) m w in
+          to ∙ ap (λ (x : List ℕ). joined x w 8) by ∙ joined-reach (farOf house t) (switches t) (farOf-wired house t) m w w (λ p h. h) in
           record {
             bound = omega arith;
             stages = record { short = h .stages .short; inside = subst (λ (x : ℕ). x < 2 ^ switches t) (sym reached) (reach-lt (farOf house t) (switches t) m w) };

@@ -1,29 +1,22 @@
 -- Lists that are stored into, one place after another: the places passed have what the whole is to have, the others what they had before.
--- So the links of a switch are added to the ports' sets, and the words written out. Assumes nothing.
-use Prim.Native.Nat.{ℕ, zero, _+_, _*_, _-_, _/_, _%_, _^_, _≤_, _<_}
+-- So the sets of the ports are found, and the words written out. Assumes nothing.
+use Prim.Native.Nat.{ℕ, zero, _+_, _-_, _/_, _%_, _^_, _≤_, _<_}
 use native.Mathlib.Nat.{le-refl, not-suc-le-zero}
 use native.Mathlib.Decide.{decLt}
 use native.Mathlib.Omega.{arith}
 use borrow.Author.Count.{below-more}
-use denote.Enum.Declared.{tagOf}
-use types.Run.{OneOf}
+use borrow.Author.Tests.{eq-eqb, ne-eqb}
 use mathlib.Core.Path.{_≡_, refl, sym, ap, _∙_, subst}
-use mathlib.Core.Logic.{⊎-elim}
-use mathlib.Core.List.{List, [], _∷_, _++_}
-use lib.Dec.{lit<}
+use mathlib.Core.Bool.{Bool, cond}
+use mathlib.Core.List.{List, _++_}
 use lib.ListN.{length, getD, set, drop, replicate, length-set, length-append, length-drop, length-replicate, getD-replicate, List·getD-append}
 use lib.Seq.{ext-getD, getD-drop, getD-set-same, getD-set-other, getD-append-add}
-use lib.Bits.{bitOr}
-use lib.Pow.{shl-exact}
-use Rattle.wiring.proofs.Laws.{getD-inside}
-use Rattle.rules.proofs.Entry.{the-type}
-use Rattle.rules.specs.declared.Entry.{Entry}
-use Rattle.rules.specs.declared.Entry.the-variants.{Switch, Node, Nothing, Bad}
+use Rattle.rules.specs.Sets.{has}
 use Rattle.rules.specs.Net.{Far}
-use Rattle.rules.specs.Table.{house, noLink, kind, leads, switches, kindAt, farOf}
-use Rattle.rules.proofs.Lists.{length-tabulate, getD-tabulate}
-use Rattle.rules.proofs.Tables.{far-inside, kind-switch}
-use Rattle.header.specs.Found.{linked, withLinks}
+use Rattle.rules.specs.Tries.{reach}
+use Rattle.rules.proofs.Lists.{length-tabulate}
+use Rattle.header.specs.Found.{singles}
+use Rattle.header.proofs.LeafLaws.{singles-at}
 
 -- ---- one place after another
 
@@ -60,53 +53,22 @@ module _ {whole before : List ℕ} where
       at j k (yes l) = h .done j l
       at j k (no l) = h .left j (omega arith) ∙ rest j k (omega arith)
 
--- ---- the links of a switch
+-- ---- the sets of the ports followed
 
-module _ (far : ℕ → ℕ → Far) (s : ℕ) (sets : List ℕ) where
-  links-at : (p : ℕ) → p < 8 → getD (withLinks far s sets) p 0 ≡ linked (far s p) (getD sets p 0)
-  unfolding withLinks
-  links-at p l = getD-tabulate 8 (λ p. linked (far s p) (getD sets p 0)) p 0 l
+module _ (far : ℕ → ℕ → Far) (size m c : ℕ) where
+  module _ {now after : List ℕ} {p : ℕ} (h : Stored (singles far size m c) (replicate 8 0) now p) (l : p < 8) where
+    pub port-followed : {n : ℕ} → c / 2 ^ p % 2 ≡ 1 → n ≡ reach far size m (2 ^ p) → after ≡ set now p n → Stored (singles far size m c) (replicate 8 0) after (p + 1)
+    unfolding has
+    port-followed e is = stored-one h l (is ∙ sym (singles-at far size m c p l ∙ ap (λ (b : Bool). cond b (reach far size m (2 ^ p)) 0) (eq-eqb (c / 2 ^ p % 2) 1 e)))
 
-  pub links-all : {now : List ℕ} {p : ℕ} → Stored (withLinks far s sets) sets now p → length sets ≡ 8 → 8 ≤ p → now ≡ withLinks far s sets
-  unfolding withLinks
-  links-all h e l = stored-all h (length-tabulate 8 (λ p. linked (far s p) (getD sets p 0)) ∙ sym e) (λ j k i. absurd (omega arith))
+    pub port-left : (c / 2 ^ p % 2 ≡ 1 → ⊥) → after ≡ now → Stored (singles far size m c) (replicate 8 0) after (p + 1)
+    unfolding has
+    port-left e = stored-none h
+        (getD-replicate 8 p 0 0 l ∙ sym (singles-at far size m c p l ∙ ap (λ (b : Bool). cond b (reach far size m (2 ^ p)) 0) (ne-eqb (c / 2 ^ p % 2) 1 e)))
 
--- e is what port p of switch s is, as the code reads it
-module _ (t : List ℕ) (s p : ℕ) (inside : s < switches t) (port : p < 8) {e : Entry} (read : e ≡ kind house (length t / 8) (getD t (8 * s + p) 0)) where
-  far-read : farOf house t s p ≡ leads e
-  unfolding kindAt switches
-  far-read =
-      far-inside house t s p inside port
-      ∙ ap leads (ap (kind house (length t / 8)) (getD-inside t (8 * s + p) noLink 0 (omega arith)) ∙ sym read)
-
-  -- a link, whose number the code has as v
-  module _ (short : length t ≤ 512) {u v : ℕ} (told : e ≡ Switch u) (is : v ≡ u) where
-    pub link-small : v < 64
-    unfolding switches
-    link-small =
-        let k = kind-switch house (length t / 8) (getD t (8 * s + p) 0) u (sym read ∙ told) in
-        let same = k .0 in
-        let less = k .1 in
-        omega arith
-
-    pub link-added : {sets now after : List ℕ} → Stored (withLinks (farOf house t) s sets) sets now p → length sets ≡ 8
-        → after ≡ set now p (bitOr (getD now p 0) (1 * 2 ^ v % 2 ^ 64)) → Stored (withLinks (farOf house t) s sets) sets after (p + 1)
-    unfolding linked leads
-    link-added {sets} h e = stored-one h (omega arith) (rw (links-at (farOf house t) s sets p port, far-read, told, shift, is, h .left p (le-refl p)))
-      where
-        shift : 1 * 2 ^ v % 2 ^ 64 ≡ 2 ^ v
-        shift = shl-exact {a = 1} 1 v 64 (lit< tt) (let k = link-small in omega arith) ∙ omega arith
-
-  pub link-none : {sets now after : List ℕ} → OneOf (1 ∷ 2 ∷ 3 ∷ []) (tagOf the-type e) → Stored (withLinks (farOf house t) s sets) sets now p
-      → after ≡ now → Stored (withLinks (farOf house t) s sets) sets after (p + 1)
-  unfolding linked leads
-  link-none {sets} o h = stored-none h (rw (links-at (farOf house t) s sets p port, far-read) (at e o))
-    where
-      at : (x : Entry) → OneOf (1 ∷ 2 ∷ 3 ∷ []) (tagOf the-type x) → getD sets p 0 ≡ linked (leads x) (getD sets p 0)
-      at (Switch u) h = absurd (⊎-elim (λ k. omega arith) (⊎-elim (λ k. omega arith) (λ k. omega arith)) h)
-      at (Node a) h = refl
-      at Nothing h = refl
-      at Bad h = refl
+  pub ports-all : {now : List ℕ} {p : ℕ} → Stored (singles far size m c) (replicate 8 0) now p → 8 ≤ p → now ≡ singles far size m c
+  unfolding singles
+  ports-all h l = stored-all h (length-tabulate 8 (λ p. cond (has p c) (reach far size m (2 ^ p)) 0)) (λ j k i. absurd (omega arith))
 
 -- ---- the last n of eight words, zeros up to the eighth byte, and what stood after them
 

@@ -3,10 +3,13 @@
 --   Stages t m, Searches t m n     a set of switches of a table of at most 64; and from 1 to 8 words to find
 --   placed ws                      the words at the end of eight bytes
 --   foundOf .. m n k               the widest header of n words from the set m within k tries: 01's rules `best` and `tries`
+--   Recalls .. n k                 what is kept of a search for n words: it is what any search from its set finds that is not over
+--   Gives .. m n k r               r is what the search from m finds, and what is kept of the stage after it
 --   lastFound, widerFound, beyondFound     the last stage; the wider of two; tries beyond the budget
 --   nextChoice w c                 the least choice among c that is not below w, or 256
---   singles, withLinks, joined     the sets that the ports reach alone; one switch more; those of a word together
+--   singles, joined                the sets that the ports of a word reach alone; those of a word's ports together
 use Prim.Native.Nat.{ℕ, zero, suc, _+_, _-_, _*_, _^_, _≤_, _<_}
+use mathlib.Core.Path.{_≡_}
 use mathlib.Core.Bool.{true, false, cond}
 use mathlib.Core.List.{List, _++_}
 use mathlib.Core.Option.{Option, none, some}
@@ -15,8 +18,10 @@ use lib.Dec.{ltb, leb}
 use lib.Bits.{bitOr}
 use lib.Count.{ones}
 use Rattle.header.specs.declared.Found.{Found}
+use Rattle.header.specs.declared.Kept.{Kept}
+use Rattle.header.specs.declared.Sought.{Sought}
 use Rattle.rules.specs.Sets.{has, least, tabulate}
-use Rattle.rules.specs.Net.{Far, switch, node, nothing}
+use Rattle.rules.specs.Net.{Far}
 use Rattle.rules.specs.Header.{permits}
 use Rattle.rules.specs.Tries.{choice, reach, tries}
 use Rattle.rules.specs.Run.{best}
@@ -54,6 +59,18 @@ unfoldable pub foundOf : (ℕ → ℕ → Far) → ℕ → (ℕ → ℕ) → ℕ
 foundOf far size mask m n budget =
     let k = tries far size mask (n - 1) m in cond (ltb budget k) beyondFound (found (best far size mask n m) k)
 
+-- ---- what is kept of it
+
+module _ (far : ℕ → ℕ → Far) (size : ℕ) (mask : ℕ → ℕ) where
+  abbrev pub Recalls : ℕ → Kept → Type 0
+  Recalls n k = k .found .over ≡ false → k .found ≡ found (best far size mask n (k .set)) (tries far size mask (n - 1) (k .set))
+
+  pub record Gives (m n budget : ℕ) (r : Sought) : Type 0 where
+    pub is : r .found ≡ foundOf far size mask m n budget
+    pub keeps : Recalls (n - 1) (r .next)
+
+-- ---- its pieces
+
 -- the last stage takes all common ports, and none are no header
 abbrev pub lastFound : ℕ → Found
 lastFound c = record { words = set (replicate 8 0) 7 c; count = ones c; tries = 0; over = false }
@@ -63,22 +80,12 @@ widerFound kept rest w n =
     cond (leb (rest .count * ones w) (kept .count)) kept
     (record { words = set (rest .words) (8 - n) w; count = rest .count * ones w; tries = 0; over = false })
 
--- ---- its pieces
-
 unfoldable pub nextChoice : ℕ → ℕ → ℕ
 nextChoice w c = w + least (256 - w) (λ k. choice (w + k) c)
 
--- the sets that ports 0 to 7 reach alone
-unfoldable pub singles : (ℕ → ℕ → Far) → ℕ → ℕ → List ℕ
-singles far size m = tabulate 8 (λ p. reach far size m (2 ^ p))
-
-unfoldable pub linked : Far → ℕ → ℕ
-linked (switch t) m = bitOr m (2 ^ t)
-linked (node a) m = m
-linked nothing m = m
-
-unfoldable pub withLinks : (ℕ → ℕ → Far) → ℕ → List ℕ → List ℕ
-withLinks far s sets = tabulate 8 (λ p. linked (far s p) (getD sets p 0))
+-- the sets that the ports of c reach alone; a port outside c has the empty set
+unfoldable pub singles : (ℕ → ℕ → Far) → ℕ → ℕ → ℕ → List ℕ
+singles far size m c = tabulate 8 (λ p. cond (has p c) (reach far size m (2 ^ p)) 0)
 
 -- the sets of the ports below k that are in w
 unfoldable pub joined : List ℕ → ℕ → ℕ → ℕ

@@ -7,13 +7,16 @@ use ways::mask_pair;
 use wiring::entry;
 use wiring::judge;
 ghost use mathlib.Core.Path.{_≡_};
-ghost use Prim.Native.Nat.{_-_, _≤_, _<_};
+ghost use mathlib.Core.Bool.{true, false, cond};
+ghost use lib.Dec.{ltb};
+ghost use Prim.Native.Nat.{_+_, _-_, _^_, _≤_, _<_};
 ghost use mathlib.Core.List.{_++_};
 ghost use lib.ListN.{length, getD, drop, replicate};
+ghost use Rattle.rules.specs.Sets.{within};
 ghost use Rattle.rules.specs.Table.{house, switches, farOf};
-ghost use Rattle.rules.specs.Tries.{common, chooses};
+ghost use Rattle.rules.specs.Tries.{common, chooses, reach};
 ghost use Rattle.rules.specs.Promise.{Tested, Issued};
-ghost use Rattle.header.specs.Found.{nextChoice, Searches, Stages, singles, withLinks, joined, foundOf, lastFound, widerFound, beyondFound};
+ghost use Rattle.header.specs.Found.{nextChoice, Searches, Stages, Recalls, Gives, singles, joined, foundOf, lastFound, widerFound, beyondFound};
 ghost use Rattle.header.specs.Pairs.{issuePair, issuePairMemory, testPair};
 
 // The widest header found: its words at the end of the eight, the number of lists it permits, 0 where there is none, and the tries; or
@@ -23,6 +26,18 @@ struct Found {
     count: u32,
     tries: u32,
     over: bool,
+}
+
+// What was found from the set that was searched last at a stage; over where nothing is kept.
+struct Kept {
+    set: u64,
+    found: Found,
+}
+
+// What is found from a set, and what is kept of the stage after it.
+struct Sought {
+    found: Found,
+    next: Kept,
 }
 
 // Issues the widest header of a pair into the first eight bytes of out.
@@ -130,46 +145,108 @@ fn stages_pass(table: &[u16], masks: &[u8; 64], start: u64, header: &[u8]) -> bo
         if w & common_of(masks, set) != w {
             return false;
         }
-        let sets = by_port(table, set);
+        let sets = by_port(table, set, w);
         set = join(&sets, w);
         i += 1;
     }
     true
 }
 
-// The widest header with `left` words from a set of switches: each nonempty choice among the common ports is tried in rising order, and only a
-// strictly wider header replaces the one kept.
+// The widest header with `left` words from a set of switches.
 fn widest(table: &[u16], masks: &[u8; 64], set: u64, left: usize, budget: u32) -> Found
     requires { ⌜ Searches (now table) set left ⌝ }
     ensures { λ r. ⌜ r ≡ foundOf (farOf house (now (table .entry))) (switches (now (table .entry))) (λ s. getD (now (masks .entry)) s 0) set left budget ⌝ }
 {
+    let sought = seek(table, masks, set, left, budget, nothing());
+    sought.found
+}
+
+// The search for it: each nonempty choice among the common ports is tried in rising order, and only a strictly wider header replaces the best.
+// Where a choice reaches the set that was searched last, what was found from it is told again.
+fn seek(table: &[u16], masks: &[u8; 64], set: u64, left: usize, budget: u32, next: Kept) -> Sought
+    requires { ⌜ Searches (now table) set left × Recalls (farOf house (now table)) (switches (now table)) (λ s. getD (now masks) s 0) (left - 1) next ⌝ }
+    ensures { λ r. ⌜ Gives (farOf house (now (table .entry))) (switches (now (table .entry))) (λ s. getD (now (masks .entry)) s 0) set left budget r ⌝ }
+{
     let ports = common_of(masks, set);
     if left == 1 {
-        return last(ports);
+        return keep(last(ports), next);
     }
-    let sets = by_port(table, set);
+    let sets = by_port(table, set, ports);
+    let mut near = next;
+    let mut after = nothing();
     let mut best = last(0);
     let mut tries: u32 = 0;
-    let mut w = next_choice(1, ports);
+    let mut w = next_choice(0, ports);
     while w < 256 {
         if tries == budget {
-            return beyond();
+            return keep(beyond(), near);
         }
         let word = byte(w);
-        let rest = widest(
-            table,
-            masks,
-            join(&sets, word),
-            left - 1,
-            budget - tries - 1,
-        );
+        let room = budget - tries - 1;
+        let to = join(&sets, word);
+        if other(near, to) {
+            let sought = seek(table, masks, to, left - 1, room, after);
+            let found = sought.found;
+            after = sought.next;
+            near = Kept { set: to, found };
+        }
+        let rest = told(near, room);
         if rest.over {
-            return beyond();
+            return keep(beyond(), near);
         }
         tries = tries + 1 + rest.tries;
         best = wider(best, rest, word, left);
-        w = next_choice(w + 1, ports);
+        w = next_choice(w, ports);
     }
+    keep(total(best, tries, budget), near)
+}
+
+fn keep(found: Found, next: Kept) -> Sought
+    ensures { λ r. ⌜ r ≡ record { found = found; next = next } ⌝ }
+{
+    Sought { found, next }
+}
+
+fn nothing() -> Kept
+    ensures { λ r. ⌜ r ≡ record { set = 0; found = beyondFound } ⌝ }
+{
+    Kept {
+        set: 0,
+        found: Found {
+            words: [0; 8],
+            count: 0,
+            tries: 0,
+            over: true,
+        },
+    }
+}
+
+// Whether nothing is kept of this set.
+fn other(kept: Kept, set: u64) -> bool
+    ensures { λ r. ⌜ (r ≡ false → (kept .set ≡ set) × (kept .found .over ≡ false)) ⌝ }
+{
+    if kept.set != set {
+        return true;
+    }
+    let found = kept.found;
+    found.over
+}
+
+// What is kept, as it is told where the budget is `room`.
+fn told(kept: Kept, room: u32) -> Found
+    ensures { λ r. ⌜ r ≡ cond (ltb room (kept .found .tries)) beyondFound (kept .found) ⌝ }
+{
+    let found = kept.found;
+    if room < found.tries {
+        return beyond();
+    }
+    found
+}
+
+// What all choices of a set gave.
+fn total(best: Found, tries: u32, budget: u32) -> Found
+    ensures { λ r. ⌜ r ≡ record { words = best .words; count = best .count; tries = tries; over = ltb budget tries } ⌝ }
+{
     let words = best.words;
     Found {
         words,
@@ -223,23 +300,16 @@ fn wider(kept: Found, rest: Found, w: u8, left: usize) -> Found
     }
 }
 
-// The least nonempty choice among the ports that is not below w, or 256.
-fn next_choice(from: u16, ports: u8) -> u16
-    requires { ⌜ (1 ≤ from) × (from ≤ 256) ⌝ }
-    ensures { λ r. ⌜ r ≡ nextChoice from ports ⌝ }
+// The least choice among the ports above w, which is one or 0; or 256. The ports outside carry the one that is added on to the next port.
+fn next_choice(w: u16, ports: u8) -> u16
+    requires { ⌜ within w ports ≡ true ⌝ }
+    ensures { λ r. ⌜ r ≡ nextChoice (w + 1) ports ⌝ }
 {
-    let within = short(ports);
-    let mut w = from;
-    while w <= within {
-        let outside = w & (255 - within);
-        if outside == 0 {
-            return w;
-        }
-        // Every number up to the next multiple of twice that port's bit has the port too.
-        let k = u16::trailing_zeros(outside);
-        w = ((w >> k) + 1) << k;
+    let all = short(ports);
+    if w == all {
+        return 256;
     }
-    256
+    (w + 256 - all) & all
 }
 
 // The ports common to the masks of all switches of the set.
@@ -259,37 +329,41 @@ fn common_of(masks: &[u8; 64], set: u64) -> u8
     ports
 }
 
-// For each port alone, the set that it reaches from the set.
-fn by_port(table: &[u16], set: u64) -> [u64; 8]
+// For each of the ports alone, the set that it reaches from the set; for the others the empty set.
+fn by_port(table: &[u16], set: u64, ports: u8) -> [u64; 8]
     requires { ⌜ Stages (now table) set ⌝ }
-    ensures { λ r. ⌜ r ≡ singles (farOf house (now (table .entry))) (switches (now (table .entry))) set ⌝ }
+    ensures { λ r. ⌜ r ≡ singles (farOf house (now (table .entry))) (switches (now (table .entry))) set ports ⌝ }
 {
     let mut sets = [0u64; 8];
+    let mut p = 0;
+    while p < 8 {
+        if (ports >> p) % 2 == 1 {
+            sets[p] = follow(table, set, p);
+        }
+        p += 1;
+    }
+    sets
+}
+
+// The set that port p reaches from the set.
+fn follow(table: &[u16], set: u64, p: usize) -> u64
+    requires { ⌜ Stages (now table) set × (p < 8) ⌝ }
+    ensures { λ r. ⌜ r ≡ reach (farOf house (now (table .entry))) (switches (now (table .entry))) set (2 ^ p) ⌝ }
+{
+    let n = table.len() / 8;
+    let mut reached: u64 = 0;
     let mut rest = set;
     let mut s: usize = 0;
     while rest != 0 {
         let k = index(u64::trailing_zeros(rest));
         s += k;
-        add_links(table, s, &mut sets);
+        if let Entry::Switch(t) = entry(table[8 * s + p], n) {
+            reached = reached | (1u64 << index16(t));
+        }
         rest = (rest >> k) >> 1;
         s += 1;
     }
-    sets
-}
-
-// Adds the switches to which the ports of switch s link, each to its port's set.
-fn add_links(table: &[u16], s: usize, sets: &mut [u64; 8])
-    requires { ⌜ (length (now table) ≤ 512) × (s < switches (now table)) × (length (now sets) ≡ 8) ⌝ }
-    ensures { λ r. ⌜ now (sets .exit) ≡ withLinks (farOf house (now (table .entry))) s (now (sets .entry)) ⌝ }
-{
-    let n = table.len() / 8;
-    let mut p = 0;
-    while p < 8 {
-        if let Entry::Switch(t) = entry(table[8 * s + p], n) {
-            sets[p] = sets[p] | (1u64 << index16(t));
-        }
-        p += 1;
-    }
+    reached
 }
 
 // The set that the ports of a word reach together.

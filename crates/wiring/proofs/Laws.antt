@@ -2,24 +2,25 @@
 -- least hit where it stops, and what each test of an entry says of the index. Assumes nothing.
 use Prim.Native.Nat.{ℕ, zero, suc, _+_, _-_, _/_, _≤_, _<_, zero-le}
 use native.Mathlib.Nat.{not-suc-le-zero, le-of-suc-le-suc}
+use native.Mathlib.Decide.{decLt}
 use native.Mathlib.Omega.{arith}
 use mathlib.Core.Path.{_≡_, refl, sym, ap, _∙_, subst}
 use mathlib.Core.Logic.{⊎-elim}
-use mathlib.Core.Bool.{Bool}
+use mathlib.Core.Bool.{Bool, true, false}
 use mathlib.Core.List.{List, [], _∷_}
 use borrow.Author.Tests.{lt-ltb, le-ltb, le-leb, lt-leb, eq-eqb, ne-eqb}
 use borrow.Author.Count.{below-more}
 use denote.Enum.Declared.{tagOf}
 use types.Run.{OneOf}
-use lib.Dec.{T}
+use lib.Dec.{T, eqb, eqb→eq}
 use lib.ListN.{length, getD}
 use Rattle.rules.proofs.Entry.{the-type}
 use Rattle.rules.specs.declared.Entry.{Entry}
 use Rattle.rules.specs.declared.Entry.the-variants.{Switch, Node, Nothing, Bad}
-use Rattle.rules.specs.Sets.{least}
+use Rattle.rules.specs.Sets.{least, any}
 use Rattle.rules.specs.Table.{house, noLink, kind, kindAt, switches}
 use Rattle.rules.specs.RunTable.{isBad, isEntryOf, sameNode, badAt, again}
-use Rattle.rules.proofs.SetLaws.{least-is, least-one, any-yes, any-some}
+use Rattle.rules.proofs.SetLaws.{T-true, eq-T, least-is, least-one, any-yes, any-some}
 use Rattle.rules.proofs.Tables.{kind-node}
 use Rattle.rules.proofs.Homes.{is-entry, same-node, node-same}
 
@@ -159,3 +160,23 @@ module _ (t : List ℕ) (i : ℕ) (inside : i < length t) where
 
     pub stands-other : OneOf (0 ∷ 2 ∷ 3 ∷ []) (tagOf the-type e) → T (isEntryOf node (kindAt house t i)) → ⊥
     stands-other o h = not-node e node o (r ∙ sym kind-read ∙ is-entry node (kindAt house t i) .0 h)
+
+-- ---- some entries at once
+
+module _ (t : List ℕ) (j n x : ℕ) where
+  is : ℕ → Bool
+  is k = eqb (getD t (j + k) 0) x
+
+  pub among-none : any n (λ k. eqb (getD t (j + k) 0) x) ≡ false → ((k : ℕ) → k < j → getD t k 0 ≡ x → ⊥) → (k : ℕ) → k < j + n → getD t k 0 ≡ x → ⊥
+  unfolding is
+  among-none e below k l q = at (decLt k j)
+    where
+      at : Dec (k < j) → ⊥
+      at (yes m) = below k m q
+      at (no m) =
+          let p : j + (k - j) ≡ k = omega arith in
+          subst T e (any-yes n is (k - j) (omega arith) (subst (λ (z : ℕ). T (eqb (getD t z 0) x)) (sym p) (eq-T (getD t k 0) x q)))
+
+  pub among-some : any n (λ k. eqb (getD t (j + k) 0) x) ≡ true → (k : ℕ) × (k < j + n) × (getD t k 0 ≡ x)
+  unfolding is
+  among-some e = let a = any-some n is (T-true e) in (j + a .0, (let l = a .1 in omega arith), eqb→eq (getD t (j + a .0) 0) x (a .2))

@@ -2,9 +2,10 @@
 use rules::Entry;
 use rules::Judgement;
 ghost use mathlib.Core.Path.{_≡_};
-ghost use Prim.Native.Nat.{_*_};
-ghost use lib.ListN.{length};
-ghost use Rattle.rules.specs.Sets.{least};
+ghost use Prim.Native.Nat.{_+_, _*_, _≤_};
+ghost use lib.Dec.{eqb};
+ghost use lib.ListN.{length, getD};
+ghost use Rattle.rules.specs.Sets.{least, any};
 ghost use Rattle.rules.specs.Table.{house, kind, kindAt, switches};
 ghost use Rattle.rules.specs.Promise.{Judged};
 ghost use Rattle.rules.specs.RunTable.{badAt, again, isEntryOf};
@@ -85,7 +86,7 @@ fn first_bad(table: &[u16]) -> usize
     i
 }
 
-// The lowest index whose processor stands at a lower index too, or the length.
+// The lowest index whose processor stands at a lower index too, or the length. The lower entries are looked through 64 at a time.
 fn first_again(table: &[u16]) -> usize
     ensures { λ r. ⌜ r ≡ least (length (now (table .entry))) (again house (now (table .entry))) ⌝ }
 {
@@ -99,15 +100,41 @@ fn first_again(table: &[u16]) -> usize
         if let Entry::Node(_) = entry(x, n) {
             let mut j = 0;
             while j < i {
-                if table[j] == x {
+                let next = few(i - j);
+                if among(table, j, next, x) {
                     break 'scan i;
                 }
-                j += 1;
+                j += next;
             }
         }
         i += 1;
     };
     at
+}
+
+// Some of what is left, 64 at most.
+fn few(left: usize) -> usize
+    requires { ⌜ 1 ≤ left ⌝ }
+    ensures { λ r. ⌜ (1 ≤ r) × (r ≤ left) ⌝ }
+{
+    if left < 64 {
+        return left;
+    }
+    64
+}
+
+// Whether one of the n entries from j on is x. All are looked at, and so many at once.
+fn among(table: &[u16], j: usize, n: usize, x: u16) -> bool
+    requires { ⌜ j + n ≤ length (now table) ⌝ }
+    ensures { λ r. ⌜ r ≡ any n (λ k. eqb (getD (now (table .entry)) (j + k) 0) x) ⌝ }
+{
+    let mut met = false;
+    let mut k = 0;
+    while k < n {
+        met = met | (table[j + k] == x);
+        k += 1;
+    }
+    met
 }
 
 // The index at which the processor stands, so port index % 8 of switch index / 8; or, if it stands nowhere, the number of all ports.

@@ -1,55 +1,53 @@
--- `header::by_port` meets its contract. The scan meets the members lowest first and misses none, and each port's set is what the members met
--- link to by that port. Assumes nothing.
-use Prim.Native.Nat.{_+_, _-_}
-use native.Mathlib.Omega.{arith}
+-- `header::by_port` meets its contract. After p turns the ports below p that are followed have the sets that they reach alone, and all others
+-- the empty set. Assumes nothing.
+use Prim.Native.Nat.{_-_, _≤_}
+use mathlib.Core.Logic.{⊎-elim}
 use borrow.Author.Needs.{needs}
-use Rattle.rules.specs.Table.{house, farOf}
-use Rattle.rules.proofs.Tables.{farOf-wired}
-use Rattle.header.proofs.LeafLaws.{member-lt}
-use Rattle.header.proofs.ScanLaws.{Scan, Meets, PortsTo, scan-start, scan-meets, scan-on, ports-start, ports-on, ports-all}
+use lib.ListN.{replicate}
+use Rattle.rules.specs.Table.{house, farOf, switches}
+use Rattle.header.specs.Found.{singles}
+use Rattle.header.proofs.StoreLaws.{Stored, stored-start, port-followed, port-left, ports-all}
 use Rattle.header.proofs.by_port.Statement.{statement}
 use Rattle.header.proofs.by_port.Tie as tie
 
 abbrev Inv-loop : tie.InvT-loop
-Inv-loop table set sets₀ rest₀ s₀ sets rest s = Scan set rest s × PortsTo (farOf house table) set s sets
+Inv-loop table set ports sets₀ p₀ sets p = (p ≤ 8) × Stored (singles (farOf house table) (switches table) set ports) (replicate 8 0) sets p
 
 abbrev μ-loop : tie.MeasureT-loop
-μ-loop table set sets₀ rest₀ s₀ sets rest s = 64 - s
+μ-loop table set ports sets₀ p₀ sets p = 8 - p
 
 loop-holds : tie.Need-loop-holds Inv-loop μ-loop
-loop-holds c = (scan-start (c .before .fits .set .fits), ports-start _ _)
+loop-holds c = (search needs, stored-start)
 
--- the member met in this turn
-meets : (c : tie.After-index Inv-loop μ-loop) → Meets (c .before .before .before .before .args .set) (c .before .before .loop .s) (c .before .before .loop .s + c .index .result)
-meets c = scan-meets (c .before .before .loop .inv .0) (c .before .loop-test .taken) (c .index .ensures)
+cast-if1 : tie.Need-cast-if1 Inv-loop μ-loop
+cast-if1 c = search needs
 
-index-requires : tie.Need-index-requires Inv-loop μ-loop
-index-requires c κs = search needs
+shr-if1 : tie.Need-shr-if1 Inv-loop μ-loop
+shr-if1 c = search needs
 
-add-s : tie.Need-add-s Inv-loop μ-loop
-add-s c = let met = meets c in search needs
+follow-requires : tie.Need-follow-requires Inv-loop μ-loop
+follow-requires c κs = search needs
 
-add-links-requires : tie.Need-add-links-requires Inv-loop μ-loop
-add-links-requires c κs =
-    let start = c .before .before .before .before .before .pre in
-    (start .short, member-lt _ _ _ (start .inside) (meets (c .before) .here), c .before .before .before .loop .inv .1 .size)
+mul-sets : tie.Need-mul-sets Inv-loop μ-loop
+mul-sets c = search needs
 
-shr-rest : tie.Need-shr-rest Inv-loop μ-loop
-shr-rest c = let met = meets (c .before .before) in let l = met .small in omega arith
+array-write-sets : tie.Need-array-write-sets Inv-loop μ-loop
+array-write-sets c = search needs
 
-add-s-2 : tie.Need-add-s-2 Inv-loop μ-loop
-add-s-2 c = let met = meets (c .before .before) in let l = met .small in omega arith
+add-p : tie.Need-add-p Inv-loop μ-loop
+add-p c = search needs
 
 loop-less : tie.Need-loop-less Inv-loop μ-loop
-loop-less c = let met = meets (c .before .before) in let l = met .small in omega arith
+loop-less c = search needs
 
 loop-again : tie.Need-loop-again Inv-loop μ-loop
 loop-again c =
-    let at = c .before .before .before .before in
-    (scan-on (at .loop .inv .0) (c .before .before .before .loop-test .taken) (c .before .before .index .ensures), ports-on _ _ (meets (c .before .before)) (at .loop .inv .1) (c .add-links .ensures))
+    let at = c .before .before .loop .inv .1 in
+    let port = c .before .loop-test .taken in
+    (search needs, ⊎-elim (λ w. port-followed _ _ _ _ at port (w .0 .taken) (w .1 .ensures) (w .2)) (λ w. port-left _ _ _ _ at port (w .0 .left) (w .1)) (c .if1 .came))
 
 returns : tie.Need-returns Inv-loop μ-loop
-returns c = ports-all _ _ (farOf-wired house _) (c .before .loop .inv .0) (c .loop-test .left) (c .before .loop .inv .1)
+returns c = ports-all _ _ _ _ (c .before .loop .inv .1) (c .loop-test .left)
 
 pub by-port-spec : {M : Type 1} → statement M
 by-port-spec =
@@ -58,11 +56,12 @@ by-port-spec =
     Inv-loop
     μ-loop
     loop-holds
-    index-requires
-    add-s
-    add-links-requires
-    shr-rest
-    add-s-2
+    cast-if1
+    shr-if1
+    follow-requires
+    mul-sets
+    array-write-sets
+    add-p
     loop-less
     loop-again
     returns)

@@ -1,15 +1,14 @@
 -- `wiring::first_again` meets its contract. Two entries are one processor exactly where the numbers are equal and in the range, so the
--- inner loop looks for the same number lower down; the scan has passed only indices without one. Assumes nothing.
+-- inner loop looks for the same number lower down, some entries at a time; the scan has passed only indices without one. Assumes nothing.
 use Prim.Native.Nat.{ℕ, _-_, _≤_, _<_}
 use native.Mathlib.Omega.{arith}
-use mathlib.Core.Path.{_≡_}
+use mathlib.Core.Path.{_≡_, sym, _∙_}
 use mathlib.Core.Logic.{⊎-elim}
-use borrow.Author.Count.{below-more}
 use borrow.Author.Needs.{needs}
 use lib.ListN.{length, getD}
 use Rattle.rules.specs.Table.{house}
 use Rattle.rules.specs.RunTable.{again}
-use Rattle.wiring.proofs.Laws.{Passed, passed-start, passed-one, passed-hit, passed-all, again-told, again-not, again-other}
+use Rattle.wiring.proofs.Laws.{Passed, passed-start, passed-one, passed-hit, passed-all, again-told, again-not, again-other, among-none, among-some}
 use Rattle.wiring.proofs.first_again.Statement.{statement}
 use Rattle.wiring.proofs.first_again.Tie as tie
 
@@ -43,20 +42,27 @@ enum-told c = search needs
 loop-holds : tie.Need-loop-holds Inv-loop μ-loop Inv-scan μ-scan
 loop-holds c = search needs
 
-mul-if2 : tie.Need-mul-if2 Inv-loop μ-loop Inv-scan μ-scan
-mul-if2 c = search needs
+sub-few : tie.Need-sub-few Inv-loop μ-loop Inv-scan μ-scan
+sub-few c = search needs
 
-shared-slice-read-if2 : tie.Need-shared-slice-read-if2 Inv-loop μ-loop Inv-scan μ-scan
-shared-slice-read-if2 c = search needs
+few-requires : tie.Need-few-requires Inv-loop μ-loop Inv-scan μ-scan
+few-requires c κs = search needs
+
+among-requires : tie.Need-among-requires Inv-loop μ-loop Inv-scan μ-scan
+among-requires c κs = let l = c .few .ensures .1 in omega (arith, c .before .before .before .before .before .before .before .before .scan .inv .bound)
 
 add-j : tie.Need-add-j Inv-loop μ-loop Inv-scan μ-scan
-add-j c = search needs
+add-j c = let l = c .before .before .few .ensures .1 in omega (arith, c .before .before .before .before .before .before .before .before .before .before .scan .inv .bound)
 
 loop-less : tie.Need-loop-less Inv-loop μ-loop Inv-scan μ-scan
 loop-less c = search needs
 
 loop-again : tie.Need-loop-again Inv-loop μ-loop Inv-scan μ-scan
-loop-again c = (search needs, below-more _ _ (c .before .before .before .loop .inv .1) (c .if2 .left))
+loop-again c =
+    let at = c .before .before .before .before .before .before .before .before .before .before in
+    let t = at .before .before .args .table .now in
+    let u = c .before .before .before .before .loop in
+    (search needs, among-none t (u .j) (c .before .before .few .result) (getD t (at .scan .i) 0) (sym (c .before .among .ensures) ∙ c .if2 .left) (u .inv .1))
 
 add-i : tie.Need-add-i Inv-loop μ-loop Inv-scan μ-scan
 add-i c = search needs
@@ -77,10 +83,12 @@ returns c = passed-all (c .before .scan .inv) (search needs)
 
 returns-2 : tie.Need-returns-2 Inv-loop μ-loop Inv-scan μ-scan
 returns-2 c =
-    let told = c .before .before .before .before .before in
+    let told = c .before .before .before .before .before .before in
     let at = told .before .before .before .before in
+    let t = at .before .before .args .table .now in
+    let hit = among-some t (c .before .before .before .before .loop .j) (c .before .before .few .result) (getD t (at .scan .i) 0) (sym (c .before .among .ensures) ∙ c .if2 .taken) in
     passed-hit (at .scan .inv)
-    (again-told _ _ (omega arith) (told .before .entry .ensures) (told .match .keys1) _ (c .before .before .loop-test .taken) (c .if2 .taken))
+    (again-told _ _ (omega arith) (told .before .entry .ensures) (told .match .keys1) (hit .0) (let l = hit .1 in let k = c .before .before .few .ensures .1 in omega arith) (hit .2))
 
 pub first-again-spec : {M : Type 1} → statement M
 first-again-spec =
@@ -96,8 +104,9 @@ first-again-spec =
     entry-requires
     enum-told
     loop-holds
-    mul-if2
-    shared-slice-read-if2
+    sub-few
+    few-requires
+    among-requires
     add-j
     loop-less
     loop-again
