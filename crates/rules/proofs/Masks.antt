@@ -14,7 +14,7 @@ use Rattle.rules.specs.Net.{Far, switch, node, nothing, follow, Shortest
 use Rattle.rules.specs.Tries.{reaches}
 use Rattle.rules.specs.Run.{arrives, near, distTo, onward, met, maskOf}
 use Rattle.rules.proofs.SetLaws.{T-and, and-i, eq-T, in-setOf, setOf-lt, has-single, has-nothing}
-use Rattle.rules.proofs.Ways.{follow-append, of-shortest, shortest-tail, shortest-cons}
+use Rattle.rules.proofs.Ways.{follow-append, of-shortest, shortest-tail, shortest-cons, node-no-switch, nothing-no-switch}
 use Rattle.rules.proofs.Layers.{as-short, dist-is, in-onward}
 use Rattle.rules.proofs.Search.{Has, reaches-from, from-reaches}
 
@@ -114,16 +114,6 @@ module _ (far : ℕ → ℕ → Far) (size : ℕ) (wired : Wired far size) (d : 
   next-ends : (m : ℕ) → Ends (next m)
   next-ends m t h = let r = from-next m t h in (r .3 .rest, shortest-tail far (r .4) (r .3 .short))
 
-  stays : (qs : List ℕ) (n s : ℕ) → follow far qs (node n) ≡ switch s → ⊥
-  unfolding follow
-  stays [] n s e = let z : _≡_ {A = ℕ} 0 1 = cc in omega arith
-  stays (q ∷ qs) n s e = let z : _≡_ {A = ℕ} 0 1 = cc in omega arith
-
-  lost : (qs : List ℕ) (s : ℕ) → follow far qs nothing ≡ switch s → ⊥
-  unfolding follow
-  lost [] s e = let z : _≡_ {A = ℕ} 0 1 = cc in omega arith
-  lost (q ∷ qs) s e = let z : _≡_ {A = ℕ} 0 1 = cc in omega arith
-
   met-start : (m s u : ℕ) (ps : List ℕ) → Has m u → follow far ps (switch u) ≡ switch s → length ps ≡ 0 → Has m s
   unfolding follow
   met-start m s u [] h e l = subst (λ (x : ℕ). T (has x m)) (cc) h
@@ -157,8 +147,8 @@ module _ (far : ℕ → ℕ → Far) (size : ℕ) (wired : Wired far size) (d : 
         via = record { before = ps; after = qs; to = ap (follow far ps) (sym f) ∙ e; whole = shortest-tail far f w };
         long = suc-inj l;
       }
-      at (node n) f = absurd (stays ps n s (ap (follow far ps) (sym f) ∙ e))
-      at nothing f = absurd (lost ps s (ap (follow far ps) (sym f) ∙ e))
+      at (node n) f = absurd (node-no-switch far ps n s (ap (follow far ps) (sym f) ∙ e))
+      at nothing f = absurd (nothing-no-switch far ps s (ap (follow far ps) (sym f) ∙ e))
 
   pub in-met : (i m s : ℕ) → Ends m → Has (met far size d i m) s ↔ Met i m s
   unfolding met next follow

@@ -17,7 +17,7 @@ use Rattle.rules.specs.Net.{Far, switch, node, nothing, follow}
 use Rattle.rules.specs.Header.{Words, Passes}
 use Rattle.rules.specs.Walk.{port, ports, after, Ending·is, Ended}
 use Rattle.rules.specs.RunWalk.{Stop, arrived, cross, walkFrom}
-use Rattle.rules.proofs.Ways.{from-node}
+use Rattle.rules.proofs.Ways.{from-node, node-no-switch}
 use Rattle.rules.proofs.Ports.{ports-pick, ports-length}
 
 words-pos : (ws : List ℕ) → Words ws → (i : ℕ) → i < length ws → zero < getD ws i 0
@@ -55,11 +55,6 @@ module _ (far : ℕ → ℕ → Far) where
   unfolding follow
   nothing-stays [] = refl
   nothing-stays (q ∷ qs) = refl
-
-  node-no-switch : (qs : List ℕ) (n s : ℕ) → follow far qs (node n) ≡ switch s → ⊥
-  unfolding follow
-  node-no-switch [] n s e = let z : _≡_ {A = ℕ} 0 1 = cc in omega arith
-  node-no-switch (q ∷ qs) n s e = let z : _≡_ {A = ℕ} 0 1 = cc in omega arith
 
   -- ---- one hop more
 
@@ -233,7 +228,7 @@ module _ (far : ℕ → ℕ → Far) where
         let on = sym (after-suc w c s i ws cs (node n) f) in
         ⊎-elim
         (λ r. let a = at-once n p i (omega arith) (on ∙ r .0) in let z = a .1 in stop-same (r .1 ws (omega arith)) (a .0) (omega arith) (omega arith))
-        (λ r. absurd (node-no-switch (take i (ports ws cs)) n p (on ∙ r)))
+        (λ r. absurd (node-no-switch far (take i (ports ws cs)) n p (on ∙ r)))
         (ended-at (w ∷ ws) (c ∷ cs) s e p (suc i) l k)
 
     only-hop : (e : Ending) (p i l : ℕ) → Ended far (w ∷ ws) (c ∷ cs) s e p (suc i) l → ((t : ℕ) → Ended far ws cs t e p i l → walkFrom far ws cs t (suc h) ≡ stop e p (suc h + i) l)

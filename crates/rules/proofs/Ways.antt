@@ -33,6 +33,17 @@ module _ (far : ℕ → ℕ → Far) where
   from-nothing [] d e = let z : _≡_ {A = ℕ} 0 1 = cc in omega arith
   from-nothing (q ∷ qs) d e = let z : _≡_ {A = ℕ} 0 1 = cc in omega arith
 
+  -- no list leads from a processor, or from nothing, to a switch
+  pub node-no-switch : (qs : List ℕ) (n s : ℕ) → follow far qs (node n) ≡ switch s → ⊥
+  unfolding follow
+  node-no-switch [] n s e = let z : _≡_ {A = ℕ} 0 1 = cc in omega arith
+  node-no-switch (q ∷ qs) n s e = let z : _≡_ {A = ℕ} 0 1 = cc in omega arith
+
+  pub nothing-no-switch : (qs : List ℕ) (s : ℕ) → follow far qs nothing ≡ switch s → ⊥
+  unfolding follow
+  nothing-no-switch [] s e = let z : _≡_ {A = ℕ} 0 1 = cc in omega arith
+  nothing-no-switch (q ∷ qs) s e = let z : _≡_ {A = ℕ} 0 1 = cc in omega arith
+
   -- ---- distances
 
   pub distance-one : {a d m n : ℕ} → Distance far a d m → Distance far a d n → m ≡ n

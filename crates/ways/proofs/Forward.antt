@@ -13,7 +13,7 @@ use Rattle.rules.specs.Sets.{has}
 use Rattle.rules.specs.Net.{Far, switch, node, nothing, follow, Shortest, Distance, Unreachable, OnWay, InMask, Wired}
 use Rattle.rules.specs.Run.{distTo, maskOf}
 use Rattle.rules.proofs.SetLaws.{T-and, and-i, same-T, eq-T, in-setOf, has-nothing, same, member}
-use Rattle.rules.proofs.Ways.{follow-append, from-node, from-nothing, distance-one, of-shortest, Nearer, onward-is, onward-link, onward-own, never-zero, distance-own, distance-suc}
+use Rattle.rules.proofs.Ways.{follow-append, from-node, from-nothing, distance-one, of-shortest, Nearer, onward-is, onward-link, onward-own, never-zero, distance-own, distance-suc, node-no-switch, nothing-no-switch}
 use Rattle.rules.proofs.Layers.{somewhere, dist-is, dist-far}
 use Rattle.rules.proofs.Masks.{via-onway, onway-via, via-next, in-mask}
 use Rattle.ways.specs.Search.{Depths}
@@ -21,17 +21,6 @@ use Rattle.ways.specs.Onward.{ahead, onwardOf}
 
 module _ (far : ℕ → ℕ → Far) where
   -- ---- lists of ports
-
-  -- no list leads from a processor, or from nothing, to a switch
-  pub node-stays : (qs : List ℕ) (n s : ℕ) → follow far qs (node n) ≡ switch s → ⊥
-  unfolding follow
-  node-stays [] n s e = let z : _≡_ {A = ℕ} 0 1 = cc in omega arith
-  node-stays (q ∷ qs) n s e = let z : _≡_ {A = ℕ} 0 1 = cc in omega arith
-
-  pub nothing-stays : (qs : List ℕ) (s : ℕ) → follow far qs nothing ≡ switch s → ⊥
-  unfolding follow
-  nothing-stays [] s e = let z : _≡_ {A = ℕ} 0 1 = cc in omega arith
-  nothing-stays (q ∷ qs) s e = let z : _≡_ {A = ℕ} 0 1 = cc in omega arith
 
   -- a list that leads to node d ends with a port of a switch that has d
   pub last-port : (ps : List ℕ) (s d : ℕ) → follow far ps (switch s) ≡ node d
@@ -67,8 +56,8 @@ module _ (far : ℕ → ℕ → Far) where
           → (zero < depth s) × (depth s ≤ depth u + length (p ∷ ps))
       at (switch v) f ih =
           let l = c u p v h f in let r = ih v (l .0) (ap (follow far ps) (sym f) ∙ e) in let i = l .1 in let j = r .1 in (r .0, omega arith)
-      at (node n) f ih = absurd (node-stays ps n s (ap (follow far ps) (sym f) ∙ e))
-      at nothing f ih = absurd (nothing-stays ps s (ap (follow far ps) (sym f) ∙ e))
+      at (node n) f ih = absurd (node-no-switch far ps n s (ap (follow far ps) (sym f) ∙ e))
+      at nothing f ih = absurd (nothing-no-switch far ps s (ap (follow far ps) (sym f) ∙ e))
 
   pub depths-closed : (a : ℕ) (depth : ℕ → ℕ) → depth a ≡ 1
       → ((s k : ℕ) → depth s ≡ suc k → (ps : List ℕ) × (follow far ps (switch a) ≡ switch s) × (length ps ≡ k))
