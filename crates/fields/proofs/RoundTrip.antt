@@ -9,7 +9,9 @@ use lib.ListN.{length, getD, take, length-append, List·getD-append}
 use lib.Seq.{getD-append-add, length-take-le, getD-take, ext-getD}
 use Rattle.rules.specs.declared.FieldAnswer.{FieldAnswer}
 use Rattle.rules.specs.Table.{house}
-use Rattle.rules.specs.Fields.{two, Field, Holds, Upto, Next, badField, Filled}
+use Rattle.rules.specs.Fields.{two, Field, offset, Holds, Upto, Next, badField, Filled}
+use Rattle.rules.specs.Print.{heading, mostInput, Printed}
+use Rattle.rules.specs.Text.{lines, Tells}
 use Rattle.rules.specs.Refusals.{tooShort}
 use Rattle.rules.proofs.Says.{Clear, clear-says}
 use Rattle.rules.proofs.FieldLaws.{upto-one, end-stops}
@@ -150,6 +152,24 @@ module _ (t : List ℕ) (ps : List (ℕ × ℕ)) (k : ℕ) (e : length t ≡ 8 *
       let u : 19 * s + (3 + 2 * p) ≡ 19 * s + 3 + 2 * p = omega arith in
       let v : 8 * s + p ≡ i = omega arith in
       sym (subst₂ (λ (o n : ℕ). two (written t ps) o ≡ getD t n 0) u v (stands-two (written t ps) (19 * s + (3 + 2 * p)) (getD t (8 * s + p) 0) h))
+
+  -- a pair's numbers: source, then destination
+  pub written-pair : (i : ℕ) → i < length ps
+      → (two (written t ps) (offset (written t ps) k i + 3) ≡ getD ps i (0, 0) .0) × (two (written t ps) (offset (written t ps) k i + 5) ≡ getD ps i (0, 0) .1)
+  unfolding pairOf pairField big
+  written-pair i l =
+      let b = written t ps in
+      let p = getD ps i (0, 0) in
+      let x : Stands b (19 * k + 7 * i + 3) (big (p .0)) = stands-in (pair-stands i l) (record { before = 2 ∷ 0 ∷ 4 ∷ []; after = big (p .1); is = refl; at = refl }) in
+      let y : Stands b (19 * k + 7 * i + 5) (big (p .1)) = stands-in (pair-stands i l) (record { before = 2 ∷ 0 ∷ 4 ∷ big (p .0); after = []; is = refl; at = refl }) in
+      (stands-two b (19 * k + 7 * i + 3) (p .0) x, stands-two b (19 * k + 7 * i + 5) (p .1) y)
+
+  -- what `routes` prints for it: a line for each pair of the list, in its order
+  pub written-told : k ≤ 64 → length (written t ps) ≤ mostInput → (l : List ℕ) → Tells house (written t ps) l
+      → (f : ℕ → List ℕ) × ((i : ℕ) → i < length ps → Printed house t (getD ps i (0, 0) .0) (getD ps i (0, 0) .1) (f i)) × (l ≡ heading ++ lines (length ps) f)
+  written-told m n l h =
+      let x = h .good n k (length ps) t (written-upto m) e written-holds in
+      (x .line, λ i q. let w = written-pair i q in subst₂ (λ (a d : ℕ). Printed house t a d (x .line i)) (w .0) (w .1) (x .each i q), x .all)
 
 -- ---- what is written is bytes, where the numbers fit two of them
 

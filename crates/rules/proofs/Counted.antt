@@ -90,6 +90,11 @@ module _ (far : ℕ → ℕ → Far) (size : ℕ) (mask : ℕ → ℕ) where
       sum-same 256 (λ w. ap (λ (k : ℕ). cond (choice w c) (suc k) 0) (tries-tried n (reach far size m w)) ∙ tried-step n (reach far size m w) (choice w c))
       ∙ sym (sum-swap (λ i w. lists 256 i (λ ws. choice w c && chooses far size mask (reach far size m w) ws)) 256 (suc n))
 
+  -- at one stage before the last with all eight ports common, each of the 255 nonempty choices is one try
+  pub tries-eight : (m : ℕ) → common size mask m ≡ 255 → tries far size mask 1 m ≡ 255
+  unfolding tries sum choice within
+  tries-eight m e = ap (λ (c : ℕ). sum 256 (λ w. cond (choice w c) 1 0)) e
+
   -- what is chosen is bytes, none of them empty: no list that chooses is left out of the count
   pub chooses-words : (m : ℕ) (ws : List ℕ) → T (chooses far size mask m ws) → Words ws
   unfolding chooses choice within Words

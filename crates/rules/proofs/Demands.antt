@@ -2,7 +2,7 @@
 -- refusal before the one in question is given. Assumes nothing.
 use Prim.Native.Nat.{ℕ, _-_, _^_, _≤_, _<_}
 use native.Mathlib.Omega.{arith}
-use mathlib.Core.Path.{_≡_, refl, ap, _∙_, subst}
+use mathlib.Core.Path.{_≡_, refl, ap, _∙_, subst, fun-ext}
 use mathlib.Core.Logic.{_↔_, ⊎-elim}
 use mathlib.Core.List.{List, [], _∷_, _++_}
 use lib.Dec.{T}
@@ -10,19 +10,21 @@ use lib.ListN.{length, getD}
 use Rattle.rules.specs.declared.Answer.{Answer}
 use Rattle.rules.specs.declared.TestAnswer.{TestAnswer}
 use Rattle.rules.specs.declared.WalkAnswer.{WalkAnswer}
-use Rattle.rules.specs.declared.Verdict.the-variants.{Yes}
+use Rattle.rules.specs.declared.Verdict.the-variants.{Neither, No, Yes}
 use Rattle.rules.specs.declared.Ending.the-variants.{Delivered}
 use Rattle.rules.specs.Sets.{has}
 use Rattle.rules.specs.Net.{Distance, InMask}
 use Rattle.rules.specs.Header.{Passes}
 use Rattle.rules.specs.Table.{Sizes, switches, farOf, Sound, Stands, Attached}
-use Rattle.rules.specs.Tries.{limit, tried}
+use Rattle.rules.specs.Tries.{limit, tries, tried}
 use Rattle.rules.specs.Run.{maskOf}
 use Rattle.rules.specs.Refusals.{Refusal, Says, plain, mostHops, Missing, NoChain, ofTable, apart, ofPair, tooFar, tooShort, tooMany, tooLong, tooFew, triesFrom}
 use Rattle.rules.specs.Promise.{Measured, Masked, Header, Issued, Tested}
 use Rattle.rules.specs.Walk.{Walked}
 use Rattle.rules.proofs.Says.{Clear, Never, clear-says, says-past}
 use Rattle.rules.proofs.Ways.{distance-one}
+use Rattle.rules.proofs.Masks.{in-mask}
+use Rattle.rules.proofs.Only.{meant-one}
 use Rattle.rules.proofs.Homes.{home-one}
 use Rattle.rules.proofs.Joined.{sound-clear}
 use Rattle.rules.proofs.Pair.{singles, single-passes, passes-length}
@@ -87,6 +89,10 @@ module _ (z : Sizes) (t : List ℕ) (a d : ℕ) where
     issued-six out r o h =
         six (tooFar z t a d ∷ tooShort mostHops out ∷ tooMany z t a d ∷ []) (λ e. omega arith, (λ e. omega arith, (λ e. omega arith, λ e. omega arith))) b (r .number) (r .place) (h .answer)
 
+  -- 01: the test "uses 1 to 7, where it says neither yes nor no, and otherwise says yes or no"
+  pub tested-neither : (ws : List ℕ) (r : TestAnswer) → Tested z t a d ws r → (r .says ≡ Neither) ↔ ¬ (r .answer .number ≡ 0)
+  tested-neither ws r h = (λ e n. ⊎-elim (λ i. let x : _≡_ {A = ℕ} 0 1 = cc in omega arith) (λ i. let x : _≡_ {A = ℕ} 0 1 = cc in omega arith) (h .either n), h .refused)
+
   -- ---- where the pair is reached
   module _ (s n : ℕ) (q : Reached z t a d s n) where
     stands-one : (u : ℕ) → Stands z t a u → u ≡ s
@@ -117,11 +123,11 @@ module _ (z : Sizes) (t : List ℕ) (a d : ℕ) where
     room-clear k out l p h = let m = h .0 in omega arith
 
     -- demand 2: "Distances .. equal those of the published method"
-    pub distance-exact : (r : Answer) → Measured z t a d r → (r .number ≡ 0) × (r .distance ≡ n)
+    pub distance-exact : (r : Answer) → Measured z t a d r → (r .number ≡ 0) × (r .distance ≡ n) × (r .count ≡ 0) × (r .tries ≡ 0)
     unfolding Clear
     distance-exact r h =
         let e = clear-says (ofPair z t a d ++ []) (pair-clear [] tt) (r .number) (r .place) (h .answer) .0 in
-        (e, distance-of s (r .distance) (q .stands) (h .distance e s (q .stands)))
+        (e, distance-of s (r .distance) (q .stands) (h .distance e s (q .stands)), h .zeros .0, h .zeros .1)
 
     -- demand 2: "A port is in a switch's mask exactly when it starts a shortest way onward for that pair."
     pub mask-exact : (out : List ℕ) (r : Answer) (o : List ℕ) → n ≤ mostHops → switches t ≤ length out → Masked z t a d out r o
@@ -154,6 +160,12 @@ module _ (z : Sizes) (t : List ℕ) (a d : ℕ) where
     tries-exact out r o e h =
         let k = h .issued e s (q .stands) in
         k .tries ∙ ap (triesFrom z t s d) (distance-of s (r .distance) (q .stands) (k .distance)) ∙ tries-tried (farOf z t) (switches t) (maskOf (farOf z t) (switches t) d s) (n - 1) (2 ^ s)
+
+    -- the masks of that rule are those of demand 2: all masks with a bit exactly where it says give this number of tries
+    pub tries-meant : (mask : ℕ → ℕ) → ((u p : ℕ) → T (has p (mask u)) ↔ InMask (farOf z t) s d u p) → triesFrom z t s d n ≡ tries (farOf z t) (switches t) mask (n - 1) (2 ^ s)
+    tries-meant mask h =
+        ap (λ (m : ℕ → ℕ). tries (farOf z t) (switches t) m (n - 1) (2 ^ s))
+        (fun-ext (λ u. meant-one (maskOf (farOf z t) (switches t) d s u) (mask u) _ (in-mask (farOf z t) (switches t) (farOf-wired z t) d s n (q .distance) u) (h u)))
 
     -- 01: "Every reachable pair of different nodes at distance 8 or less has a header"
     pub has-header : (ws : List ℕ) × Passes (farOf z t) s d ws × (length ws ≡ n)

@@ -1,6 +1,6 @@
 -- Where a processor stands: where refusal 3 does not apply, at one port, so at one switch, and `home` finds it. Two ports with the same
 -- processor are two indices with the same entry, and the higher of them is a fault. Assumes nothing.
-use Prim.Native.Nat.{ℕ, _+_, _*_, _<_, _≤_}
+use Prim.Native.Nat.{ℕ, zero, _+_, _*_, _<_, _≤_}
 use native.Mathlib.Nat.{eq-or-lt-of-le}
 use native.Mathlib.Decide.{decLe}
 use native.Mathlib.Omega.{arith}
@@ -56,6 +56,10 @@ module _ (z : Sizes) (t : List ℕ) where
         record { inside = h .0; processor = k .0; here = k .2; lower = j .0; below = j .1; there = k .1 },
     λ h. (h .inside, any-yes i (λ j. sameNode (kindAt z t j) (kindAt z t i)) (h .lower) (h .below) (node-same (kindAt z t (h .lower)) (kindAt z t i) (h .processor) (h .there) (h .here))),
   )
+
+  -- 01: "Place 0 can be a true place under 2 and 12": under 3 it cannot
+  pub again-past : (i : ℕ) → Again z t i → zero < i
+  again-past i h = let l = h .below in omega arith
 
   -- ---- one port
 

@@ -3,7 +3,7 @@
 use Prim.Native.Nat.{ℕ, _+_, _*_, _/_, _%_, _^_, _≤_, _<_}
 use native.Mathlib.Nat.{lt-of-lt-of-le, add-comm, mul-comm, div-one, mod-lt, mod-eq-of-lt, zero-lt-suc}
 use native.Mathlib.Omega.{arith}
-use mathlib.Core.Path.{_≡_, sym, ap, _∙_, subst}
+use mathlib.Core.Path.{_≡_, refl, sym, ap, _∙_, subst}
 use mathlib.Core.Bool.{Bool, true, false, cond}
 use mathlib.Core.List.{List, [], _∷_, _++_}
 use lib.Dec.{eqb, eqb→eq}
@@ -124,6 +124,16 @@ verdict-fits Neither = omega arith
 verdict-fits No = omega arith
 verdict-fits Yes = omega arith
 
+-- the verdict that a number tells, 1 for yes and 2 for no: none is packed as another
+unfoldable pub verdictOf : ℕ → Verdict
+verdictOf k = cond (eqb k 1) Yes (cond (eqb k 2) No Neither)
+
+pub verdict-reads : (v : Verdict) → verdictOf (verdictNumber v) ≡ v
+unfolding verdictOf verdictNumber
+verdict-reads Neither = refl
+verdict-reads No = refl
+verdict-reads Yes = refl
+
 pub test-unpacked : (r : TestAnswer) → r .answer .number < 2 ^ 8 → r .answer .place < 2 ^ 56 → UnpackedTest r (packedTest r)
 unfolding packedTest widths
 test-unpacked r l m =
@@ -141,6 +151,19 @@ ending-fits Leftover = omega arith
 ending-fits Empty = omega arith
 ending-fits Off = omega arith
 ending-fits Short = omega arith
+
+-- the ending that a number tells, in 01's order from 1 on: none is packed as another
+unfoldable pub endingOf : ℕ → Ending
+endingOf k = cond (eqb k 1) Delivered (cond (eqb k 2) Leftover (cond (eqb k 3) Empty (cond (eqb k 4) Off (cond (eqb k 5) Short None))))
+
+pub ending-reads : (e : Ending) → endingOf (endingNumber e) ≡ e
+unfolding endingOf endingNumber
+ending-reads None = refl
+ending-reads Delivered = refl
+ending-reads Leftover = refl
+ending-reads Empty = refl
+ending-reads Off = refl
+ending-reads Short = refl
 
 pub walk-unpacked : (r : WalkAnswer) → r .number < 2 ^ 8 → r .place < 2 ^ 56 → (r .number ≡ 0 → (r .at < 2 ^ 16) × (r .hops < 2 ^ 8) × (r .left < 2 ^ 8)) → UnpackedWalk r (packedWalk r)
 unfolding packedWalk widths

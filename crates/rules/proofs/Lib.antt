@@ -26,5 +26,6 @@ pub mod WalkPromise
 pub mod Counted
 pub mod Prints
 pub mod Texts
+pub mod Order
 pub mod Demands
 pub mod Cases

@@ -36,7 +36,7 @@ pub blank-same : {q r : Answer} → Same (q .number) (r .number) (q .place) (r .
 blank-same e h k = answer-same e (h .distance ∙ sym (k .distance)) (h .count ∙ sym (k .count)) (h .tries ∙ sym (k .tries))
 
 -- two sets with the same members, each said by one meaning
-meant-one : (m n : ℕ) (P : ℕ → Type 0) → ((p : ℕ) → T (has p m) ↔ P p) → ((p : ℕ) → T (has p n) ↔ P p) → m ≡ n
+pub meant-one : (m n : ℕ) (P : ℕ → Type 0) → ((p : ℕ) → T (has p m) ↔ P p) → ((p : ℕ) → T (has p n) ↔ P p) → m ≡ n
 meant-one m n P h k = same m n (λ p. same-T (has p m) (has p n) (λ i. k p .1 (h p .0 i)) (λ i. h p .1 (k p .0 i)))
 
 module _ (z : Sizes) (t : List ℕ) where

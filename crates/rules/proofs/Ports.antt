@@ -5,9 +5,9 @@ use native.Mathlib.Nat.{mod-lt, le-antisymm, le-of-suc-le-suc, not-suc-le-zero}
 use native.Mathlib.Omega.{arith}
 use mathlib.Core.Path.{_≡_, refl, ap}
 use mathlib.Core.Bool.{Bool, cond, _&&_}
-use mathlib.Core.List.{List, [], _∷_}
+use mathlib.Core.List.{List, [], _∷_, _++_}
 use lib.Dec.{T, eqb, eqb→eq, ltb, ltb→lt}
-use lib.ListN.{length}
+use lib.ListN.{length, getD}
 use lib.Count.{ones, onesIn}
 use Rattle.rules.specs.Sets.{has, all, sum, count, least}
 use Rattle.rules.specs.Header.{Picks, Words}
@@ -64,3 +64,18 @@ unfolding ports
 ports-length [] cs l = refl
 ports-length (w ∷ ws) [] l = absurd (not-suc-le-zero l)
 ports-length (w ∷ ws) (c ∷ cs) l = ap suc (ports-length ws cs (le-of-suc-le-suc l))
+
+-- hop i is made by word i and choice byte i
+pub ports-at : (ws cs : List ℕ) (i : ℕ) → length ws ≤ length cs → i < length ws → getD (ports ws cs) i 0 ≡ port (getD ws i 0) (getD cs i 0)
+unfolding ports
+ports-at [] cs i l h = absurd (not-suc-le-zero h)
+ports-at (w ∷ ws) [] i l h = absurd (not-suc-le-zero l)
+ports-at (w ∷ ws) (c ∷ cs) zero l h = refl
+ports-at (w ∷ ws) (c ∷ cs) (suc i) l h = ports-at ws cs i (le-of-suc-le-suc l) (le-of-suc-le-suc h)
+
+-- choice bytes beyond the words are not read
+pub ports-beyond : (ws cs ds : List ℕ) → length ws ≤ length cs → ports ws (cs ++ ds) ≡ ports ws cs
+unfolding ports
+ports-beyond [] cs ds l = refl
+ports-beyond (w ∷ ws) [] ds l = absurd (not-suc-le-zero l)
+ports-beyond (w ∷ ws) (c ∷ cs) ds l = ap (λ (ps : List ℕ). port w c ∷ ps) (ports-beyond ws cs ds (le-of-suc-le-suc l))

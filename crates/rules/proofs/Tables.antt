@@ -1,6 +1,6 @@
 -- What an entry is, by 01's ranges; that a table is wired within its own switches, whatever its entries; and that the tests for bad
 -- entries and repeated processors are the faults. Each follows the ranges of `kind`, once. Assumes nothing.
-use Prim.Native.Nat.{ℕ, _+_, _*_, _-_, _/_, _%_, _≤_, _<_}
+use Prim.Native.Nat.{ℕ, zero, _+_, _*_, _-_, _/_, _%_, _≤_, _<_}
 use native.Mathlib.Decide.{ℕ-discrete}
 use native.Mathlib.Omega.{arith}
 use mathlib.Core.Path.{_≡_, refl, sym, ap, _∙_, subst}
@@ -154,6 +154,10 @@ module _ (z : Sizes) (t : List ℕ) where
   pub in-bad : (i : ℕ) → ((i < length t) × T (badAt z t i)) ↔ BadAt z t i
   unfolding badAt
   in-bad i = (λ h. record { inside = h .0; bad = is-bad (kindAt z t i) .0 (h .1) }, λ h. (h .inside, is-bad (kindAt z t i) .1 (h .bad)))
+
+  -- 01: "N is 1 to 64", eight entries for each
+  pub right-length : (n : ℕ) → zero < n → n ≤ z .most → length t ≡ 8 * n → ¬ (WrongLength z t)
+  right-length n p l e h = ⊎-elim (λ i. omega arith) (λ i. ⊎-elim (λ j. omega arith) (λ j. j (omega arith)) i) h
 
   -- what a sound table's length says
   pub sound-length : Sound z t → (1 ≤ switches t) × (switches t ≤ z .most) × (length t ≡ 8 * switches t)

@@ -1,20 +1,23 @@
 -- The walk's answer keeps its promise and no second one does: where number 0 is said the source stands at one switch, and a walk from
 -- there ends in one way. Assumes nothing.
-use Prim.Native.Nat.{ℕ, _≤_, _<_}
+use Prim.Native.Nat.{ℕ, _≤_, _<_, zero-le}
+use native.Mathlib.Nat.{not-suc-le-zero}
 use native.Mathlib.Decide.{ℕ-discrete}
 use native.Mathlib.Omega.{arith}
 use mathlib.Core.Path.{_≡_, refl, sym, _∙_, subst}
-use mathlib.Core.Logic.{⊎-elim}
+use mathlib.Core.Logic.{_↔_, ⊎-elim}
 use mathlib.Core.Bool.{Bool, true, false, cond, not}
 use mathlib.Core.List.{List, [], _∷_, _++_}
 use lib.Dec.{ltb, ltb→lt, lt→ltb, not-T, T-not}
 use lib.ListN.{length}
 use Rattle.rules.specs.declared.Judgement.{Judgement}
 use Rattle.rules.specs.declared.WalkAnswer.{WalkAnswer}
-use Rattle.rules.specs.declared.Ending.the-variants.{None}
+use Rattle.rules.specs.declared.Ending.{Ending}
+use Rattle.rules.specs.declared.Ending.the-variants.{None, Short}
+use Rattle.rules.specs.Net.{Far, follow}
 use Rattle.rules.specs.Table.{Sizes, farOf, Stands, Attached}
 use Rattle.rules.specs.Refusals.{Refusal, plain, mostHops, ofTable, tooLong, tooFew}
-use Rattle.rules.specs.Walk.{Ended, Walked}
+use Rattle.rules.specs.Walk.{Ending·is, Ended, Walked}
 use Rattle.rules.specs.Look.{accepted}
 use Rattle.rules.specs.RunTable.{attached, home}
 use Rattle.rules.specs.RunWalk.{Stop, walkFrom, walkJudgement, walkOf}
@@ -23,6 +26,12 @@ use Rattle.rules.proofs.Says.{Told, Placed, Clear, says-step, says-end,
 use Rattle.rules.proofs.Joined.{table-says, table-placed, clear-sound}
 use Rattle.rules.proofs.Homes.{home-one, in-attached, home-is}
 use Rattle.rules.proofs.Walks.{walk-ended, ended-only}
+
+-- 01: "An empty header is SHORT at the source's switch, 0 hops."
+pub empty-header : (far : ℕ → ℕ → Far) (cs : List ℕ) (s : ℕ) (e : Ending) (at h l : ℕ) → Ended far [] cs s e at h l → (e ≡ Short) × (at ≡ s) × (h ≡ 0) × (l ≡ 0)
+unfolding Ending·is follow
+empty-header far cs s e at h l k =
+    ended-only far [] cs s zero-le e Short at s h 0 l 0 k (record { so = (refl, refl); words = refl; before = λ i m. absurd (not-suc-le-zero m) })
 
 module _ (z : Sizes) (t : List ℕ) (a : ℕ) (ws cs : List ℕ) where
   abbrev ofWalk : List Refusal
@@ -56,6 +65,15 @@ module _ (z : Sizes) (t : List ℕ) (a : ℕ) (ws cs : List ℕ) where
         alone = λ s i. home-one z t (c .0 .none-again) a s (home z t a) i (home-is z t a w);
         enough = not-lt (plain-never (c .1 .1 .1 .0));
       }
+
+  -- NONE goes with a refusal, and with nothing else
+  pub walked-none : (r : WalkAnswer) → Walked z t a ws cs r → (r .ending ≡ None) ↔ ¬ (r .number ≡ 0)
+  unfolding Ending·is
+  walked-none r h = (
+    λ e n. let w = ready (record { number = r .number; place = r .place }) (h .answer) n in
+        subst (λ (x : Ending). Ending·is (farOf z t) ws cs (home z t a) x (r .at) (r .hops) (r .left)) e (h .walked n (home z t a) (w .«from») .so),
+    λ n. h .refused n .0,
+  )
 
   pub walked-met : Walked z t a ws cs (walkOf z t a ws cs)
   unfolding walkOf

@@ -131,6 +131,13 @@ module _ (far : ℕ → ℕ → Far) where
         at o (node n) e = inr (e ∙ ap node (from-node (o .rest) n d (unstep (o .rest) e (o .short .leads)) .1))
         at o nothing e = absurd (onward-nothing o e)
 
+    -- 01: "A switch may name itself; this never lies on a shortest way."
+    pub self-never : (s p : ℕ) → far s p ≡ switch s → ¬ (Onward far d s p)
+    self-never s p e o = ⊎-elim near (λ i. let z : _≡_ {A = ℕ} 0 1 = cc in omega arith) (onward-is s p .0 o)
+      where
+        near : Nearer d s p → ⊥
+        near i = let x : i .to ≡ s = cc in let y = distance-one (subst (λ (u : ℕ). Distance far u d (i .n)) x (i .one-less)) (i .here) in omega arith
+
     -- "At the destination's switch that is the destination's own port alone."
     pub onward-alone : (s p q : ℕ) → far s q ≡ node d → Onward far d s p ↔ (far s p ≡ node d)
     onward-alone s p q e = (λ o. ⊎-elim near (λ i. i) (onward-is s p .0 o), onward-own)

@@ -11,7 +11,7 @@ use lib.ListN.{replicate}
 use Rattle.rules.specs.declared.Answer.{Answer}
 use Rattle.rules.specs.declared.Verdict.{Verdict}
 use Rattle.rules.specs.declared.Verdict.the-variants.{Neither, No, Yes}
-use Rattle.rules.specs.Table.{house, noLink}
+use Rattle.rules.specs.Table.{house}
 use Rattle.rules.specs.Promise.{Issued, Masked, Tested}
 use Rattle.rules.specs.Print.{ascii, ended, Printed}
 use Rattle.rules.specs.RunPair.{issueAnswer, issueMemory, maskAnswer, maskMemory, testOf}
@@ -22,11 +22,11 @@ abbrev pub row : ℕ → ℕ → ℕ → ℕ → ℕ → ℕ → ℕ → ℕ →
 row a b c d e f g h = a ∷ b ∷ c ∷ d ∷ e ∷ f ∷ g ∷ h ∷ []
 
 abbrev pub dash : ℕ
-dash = noLink
+dash = 65535
 
 -- the entry of a processor
 abbrev pub processor : ℕ → ℕ
-processor a = house .first + a
+processor a = 1000 + a
 
 abbrev pub A : List ℕ
 A =
