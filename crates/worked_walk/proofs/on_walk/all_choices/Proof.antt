@@ -1,8 +1,8 @@
 -- `worked::on_walk::all_choices` is safe: c rises to 255, which a byte holds. The measure is the choices left. Assumes nothing.
 use borrow.Author.Needs.{needs}
 use Prim.Native.Nat.{_-_}
-use Rattle.worked.proofs.on_walk.all_choices.Statement.{statement}
-use Rattle.worked.proofs.on_walk.all_choices.Tie as tie
+use Rattle.worked_walk.proofs.on_walk.all_choices.Statement.{statement}
+use Rattle.worked_walk.proofs.on_walk.all_choices.Tie as tie
 
 abbrev Inv-loop : tie.InvT-loop
 Inv-loop c₀ t2 c = Unit {0}

@@ -1,8 +1,8 @@
 -- `worked::on_fields::rows` is safe: a row begins at 19 * k with k below 65. The measure is the rows left. Assumes nothing.
 use borrow.Author.Needs.{needs}
 use Prim.Native.Nat.{_-_}
-use Rattle.worked.proofs.on_fields.rows.Statement.{statement}
-use Rattle.worked.proofs.on_fields.rows.Tie as tie
+use Rattle.worked_walk.proofs.on_fields.rows.Statement.{statement}
+use Rattle.worked_walk.proofs.on_fields.rows.Tie as tie
 
 abbrev Inv-loop : tie.InvT-loop
 Inv-loop f₀ k₀ f k = Unit {0}

@@ -1,8 +1,8 @@
 -- `worked::on_fields::cut` is safe: n rises to 53. The measure is the cuts left. Assumes nothing.
 use borrow.Author.Needs.{needs}
 use Prim.Native.Nat.{_-_}
-use Rattle.worked.proofs.on_fields.cut.Statement.{statement}
-use Rattle.worked.proofs.on_fields.cut.Tie as tie
+use Rattle.worked_walk.proofs.on_fields.cut.Statement.{statement}
+use Rattle.worked_walk.proofs.on_fields.cut.Tie as tie
 
 abbrev Inv-loop : tie.InvT-loop
 Inv-loop f n₀ n = Unit {0}

@@ -1,0 +1,1 @@
+../../worked/src/show.rt
