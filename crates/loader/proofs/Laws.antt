@@ -1,6 +1,6 @@
 -- How a packed number is made of its parts: the number 0 adds nothing below the parts, and any other stands below its place. And the two
 -- ways of header issue over fields: a field that is no row, or the table of all rows. Assumes nothing.
-use Prim.Native.Nat.{ℕ, _+_, _*_, _≤_, _<_}
+use Prim.Native.Nat.{ℕ, _+_, _*_, _%_, _≤_, _<_}
 use native.Mathlib.Omega.{arith}
 use mathlib.Core.Path.{_≡_, refl, sym, ap, _∙_, subst}
 use mathlib.Core.List.{List, [], _∷_}
@@ -28,6 +28,11 @@ module _ (number place n : ℕ) (parts : List (ℕ × ℕ)) where
   pub packs-made : number ≡ 0 → n ≡ 256 * laid parts → n ≡ packs number place parts
   unfolding packs laid
   packs-made h e = simp (eq-eqb number 0 h) (omega arith)
+
+-- distance, count and tries, as the code has read them, laid side by side
+pub three-laid : (d c t e b u : ℕ) → e ≡ d → e < 256 → b ≡ c → u ≡ t → 256 * (e + 256 * (b % 16777216 + 16777216 * (u % 16777216))) ≡ 256 * laid ((8, d) ∷ (24, c) ∷ (24, t) ∷ [])
+unfolding laid
+three-laid d c t e b u f l g h = omega arith
 
 -- ---- header issue over fields: what `read_rows` gave is r, and left the table t
 

@@ -22,7 +22,7 @@ pub record Sizes : Type 0 where
   pub first : ℕ
   pub nodes : ℕ
 
--- 01: "N is 1 to 64", "1000 to 1511: processor 0 to 511". The one place that knows these numbers.
+-- 01: "N is 1 to 64", "1000 to 1511: processor 0 to 511". The one definition that knows these numbers; 01's cases write them out.
 abbrev pub house : Sizes
 house = record { most = 64; first = 1000; nodes = 512 }
 

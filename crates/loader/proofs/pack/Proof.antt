@@ -1,8 +1,7 @@
 -- `loader::pack` lays the parts side by side. Assumes nothing.
-use native.Mathlib.Omega.{arith}
 use borrow.Author.Needs.{needs}
-use Rattle.rules.specs.Pack.{laid, packed}
-use Rattle.loader.proofs.Laws.{packs-refused, packs-made}
+use Rattle.rules.specs.Pack.{packed}
+use Rattle.loader.proofs.Laws.{packs-refused, packs-made, three-laid}
 use Rattle.loader.proofs.pack.Statement.{statement}
 use Rattle.loader.proofs.pack.Tie as tie
 
@@ -38,8 +37,8 @@ mul-result-3 : tie.Need-mul-result-3
 mul-result-3 c = search needs
 
 returns-2 : tie.Need-returns-2
-unfolding packed laid
-returns-2 c = packs-made _ _ _ _ (c .before .before .before .if1 .left) (omega arith)
+unfolding packed
+returns-2 c = packs-made _ _ _ _ (c .before .before .before .if1 .left) (three-laid _ _ _ _ _ _ (c .small .ensures .0) (c .small .ensures .1) (c .before .before .middle .ensures) (c .before .middle2 .ensures))
 
 pub pack-spec : {M : Type 1} → statement M
 pack-spec =
