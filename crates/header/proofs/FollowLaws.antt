@@ -20,16 +20,15 @@ use Rattle.rules.specs.Net.{Far, switch, Wired}
 use Rattle.rules.specs.Table.{house, noLink, kind, leads, switches, kindAt, farOf}
 use Rattle.rules.specs.Tries.{reach}
 use Rattle.rules.proofs.Entry.{the-type}
-use Rattle.rules.proofs.SetLaws.{T-or, or-l, or-r, eq-T, has-nothing, has-or, has-single}
+use Rattle.rules.proofs.SetLaws.{eq-T, has-nothing, has-single}
 use Rattle.rules.proofs.Tables.{far-inside, kind-switch}
-use Rattle.header.proofs.LeafLaws.{same-members, in-single}
+use Rattle.header.proofs.LeafLaws.{same-members, in-or, in-single}
 use Rattle.header.proofs.ScanLaws.{Scan, Meets, scan-end, met}
 
 linked-in : (m u t : ℕ) → T (has t (bitOr m (2 ^ u))) ↔ (T (has t m) ⊎ (t ≡ u))
 linked-in m u t = (
-  λ h. ⊎-elim inl (λ k. inr (eqb→eq t u (subst T (has-single u t) k))) (T-or (has t m) (has t (2 ^ u)) (subst T (has-or t m (2 ^ u)) h)),
-  λ h. subst T (sym (has-or t m (2 ^ u)))
-      (⊎-elim (or-l (has t m) (has t (2 ^ u))) (λ e. or-r (has t m) (has t (2 ^ u)) (subst T (sym (has-single u t)) (eq-T t u e))) h),
+  λ h. ⊎-elim inl (λ k. inr (eqb→eq t u (subst T (has-single u t) k))) (in-or m (2 ^ u) t .0 h),
+  λ h. in-or m (2 ^ u) t .1 (⊎-elim inl (λ e. inr (subst T (sym (has-single u t)) (eq-T t u e))) h),
 )
 
 -- n is the set of the switches to which the members met link by port p

@@ -6,7 +6,7 @@ use native.Mathlib.Numerals.{add-one}
 use native.Mathlib.Omega.{arith}
 use borrow.Author.Tests.{ne-eqb}
 use mathlib.Core.Path.{_≡_, refl, sym, ap, _∙_, subst}
-use mathlib.Core.Logic.{_↔_, ⊎-elim}
+use mathlib.Core.Logic.{_⊎_, inl, inr, _↔_, ⊎-elim}
 use mathlib.Core.Bool.{Bool, true, false, cond, _||_, not}
 use mathlib.Core.List.{List}
 use lib.Dec.{T, eqb→eq, eqb-refl}
@@ -24,6 +24,12 @@ use Rattle.header.specs.Found.{singles, joined}
 -- two sets with the same members are one number
 pub same-members : (m n : ℕ) → ((s : ℕ) → T (has s m) → T (has s n)) → ((s : ℕ) → T (has s n) → T (has s m)) → m ≡ n
 same-members m n f g = same m n (λ s. same-T (has s m) (has s n) (f s) (g s))
+
+pub in-or : (a b s : ℕ) → T (has s (bitOr a b)) ↔ (T (has s a) ⊎ T (has s b))
+in-or a b s = (
+  λ h. T-or (has s a) (has s b) (subst T (has-or s a b) h),
+  λ h. subst T (sym (has-or s a b)) (⊎-elim (or-l (has s a) (has s b)) (or-r (has s a) (has s b)) h),
+)
 
 -- a member of a number of n digits is below n
 pub member-lt : (n m s : ℕ) → m < 2 ^ n → T (has s m) → s < n
@@ -62,10 +68,10 @@ in-joined sets w (suc k) t = at (has k w) refl (in-joined sets w k t)
         → T (has t (cond b (bitOr (joined sets w k) (getD sets k 0)) (joined sets w k))) ↔ ((p : ℕ) × (p < suc k) × T (has p w) × T (has t (getD sets p 0)))
     at true e i = (
       λ h. ⊎-elim (λ h. let r = i .0 h in (r .0, omega arith, r .2, r .3)) (λ h. (k, le-refl (suc k), T-true e, h))
-          (T-or (has t (joined sets w k)) (has t (getD sets k 0)) (subst T (has-or t (joined sets w k) (getD sets k 0)) h)),
-      λ h. subst T (sym (has-or t (joined sets w k) (getD sets k 0))) (⊎-elim
-          (λ q. or-r (has t (joined sets w k)) (has t (getD sets k 0)) (subst (λ (p : ℕ). T (has t (getD sets p 0))) q (h .3)))
-          (λ l. or-l (has t (joined sets w k)) (has t (getD sets k 0)) (i .1 (h .0, l, h .2, h .3))) (lt-cases (h .1))),
+          (in-or (joined sets w k) (getD sets k 0) t .0 h),
+      λ h. in-or (joined sets w k) (getD sets k 0) t .1 (⊎-elim
+          (λ q. inr (subst (λ (p : ℕ). T (has t (getD sets p 0))) q (h .3)))
+          (λ l. inl (i .1 (h .0, l, h .2, h .3))) (lt-cases (h .1))),
     )
     at false e i = (
       λ h. let r = i .0 h in (r .0, omega arith, r .2, r .3),

@@ -1,6 +1,8 @@
 pub mod ChoiceLaws
 pub mod LastStage
 pub mod LeafLaws
+pub mod AlikeLaws
+pub mod GroupLaws
 pub mod ScanLaws
 pub mod FollowLaws
 pub mod Searching

@@ -10,13 +10,13 @@ use lib.Dec.{T, ltb}
 use borrow.Author.Tests.{le-ltb}
 use Rattle.rules.specs.Net.{Far}
 use Rattle.rules.specs.Table.{house, switches, farOf}
-use Rattle.rules.specs.Tries.{choice, common, reach, reaches}
-use Rattle.rules.proofs.SetLaws.{setOf-lt}
+use Rattle.rules.specs.Tries.{choice, common, reach}
 use Rattle.rules.proofs.Tables.{farOf-wired}
 use Rattle.header.specs.declared.Found.{Found}
 use Rattle.header.specs.declared.Kept.{Kept}
-use Rattle.header.specs.Found.{Searches, Stages, Recalls, foundOf, lastFound, beyondFound, widerFound, nextChoice, singles, joined}
-use Rattle.header.proofs.LeafLaws.{common-size, joined-reach}
+use Rattle.header.specs.Found.{Searches, Stages, Recalls, foundOf, lastFound, beyondFound, widerFound, nextChoice, joined, Grouped}
+use Rattle.header.proofs.LeafLaws.{common-size}
+use Rattle.header.proofs.AlikeLaws.{AlikeInside, group-reach, found-alike}
 use Rattle.header.proofs.LastStage.{choice-in, found-last}
 use Rattle.header.proofs.Widths.{best-fine, found-few}
 use Rattle.header.proofs.WidestLaws.{Turn, after, cost, rest, whole, whole-is, turn-start, full-at, over-at, take-at, end-at}
@@ -53,7 +53,7 @@ module _ (t ms : List ℕ) where
       pub searches : Searches t m left
       pub deep : left ≡ 1 → ⊥
       pub common-ports : ports ≡ common 64 mask m
-      pub port-sets : sets ≡ singles far (switches t) m ports
+      pub port-sets : Grouped far (switches t) mask m ports sets
 
     abbrev pub Search : Found → ℕ → ℕ → Type 0
     Search h k w = Turn ports (after far (switches t) mask m left) (cost far (switches t) mask m left) budget h k w
@@ -87,21 +87,21 @@ module _ (t ms : List ℕ) where
       full h k w u l e r q = q ∙ full-at ports (after far (switches t) mask m left) (cost far (switches t) mask m left) budget h k w u l e ∙ is-whole
 
       module _ (w word set : ℕ) (chosen : T (choice w ports)) (same : word ≡ w) (join : set ≡ joined sets word 8) where
-        is-reach : set ≡ reach far (switches t) m w
-        is-reach =
-            join ∙ ap₂ (λ (x : List ℕ) (y : ℕ). joined x y 8) (known .port-sets) same
-            ∙ joined-reach far (switches t) (farOf-wired house t) m ports w (λ p. choice-in w ports p chosen)
+        -- the set is alike to the one that the word reaches
+        to-reach : AlikeInside far (switches t) mask (farOf-wired house t) set (reach far (switches t) m w)
+        to-reach =
+            subst (λ (x : ℕ). AlikeInside far (switches t) mask (farOf-wired house t) x (reach far (switches t) m w)) (sym (join ∙ ap (λ (x : ℕ). joined sets x 8) same))
+            (group-reach far (switches t) mask (farOf-wired house t) (known .port-sets) w (λ p. choice-in w ports p chosen))
 
-        -- the set reached is searched for a word less
+        -- it is searched for a word less
         pub deeper : Searches t set (left - 1)
-        unfolding reach
         deeper =
             let s = known .searches in
             let d = known .deep in
             record {
               stages = record {
                 short = s .stages .short;
-                inside = subst (λ (x : ℕ). x < 2 ^ switches t) (sym is-reach) (setOf-lt (switches t) (reaches far (switches t) m (λ _. w)));
+                inside = to-reach .left;
               };
               some = let o = s .some in omega arith;
               few = let f = s .few in omega arith;
@@ -110,7 +110,7 @@ module _ (t ms : List ℕ) where
         module _ (k : ℕ) (r : Found) (found : r ≡ foundOf far (switches t) mask set (left - 1) (budget - k - 1)) where
           is-rest : r ≡ rest ports (after far (switches t) mask m left) (cost far (switches t) mask m left) (budget - k - 1) w
           unfolding foundOf
-          is-rest = found ∙ ap (λ (x : ℕ). foundOf far (switches t) mask x (left - 1) (budget - k - 1)) is-reach
+          is-rest = found ∙ found-alike far (switches t) mask (farOf-wired house t) (to-reach .alike) (left - 1) (budget - k - 1)
 
           pub fits : (1 ≤ left) × (left ≤ 8) × (r .count ≤ 2097152)
           fits =

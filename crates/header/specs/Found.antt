@@ -8,13 +8,15 @@
 --   lastFound, widerFound, beyondFound     the last stage; the wider of two; tries beyond the budget
 --   nextChoice w c                 the least choice among c that is not below w, or 256
 --   singles, joined                the sets that the ports of a word reach alone; those of a word's ports together
+--   Alike a b                      two sets that the search does not tell apart
+--   Grouped m c sets               for each port a set like the one that it reaches alone from m
 use Prim.Native.Nat.{ℕ, zero, suc, _+_, _-_, _*_, _^_, _≤_, _<_}
 use mathlib.Core.Path.{_≡_}
 use mathlib.Core.Bool.{true, false, cond}
 use mathlib.Core.List.{List, _++_}
 use mathlib.Core.Option.{Option, none, some}
 use lib.ListN.{length, getD, set, replicate}
-use lib.Dec.{ltb, leb}
+use lib.Dec.{T, ltb, leb}
 use lib.Bits.{bitOr}
 use lib.Count.{ones}
 use Rattle.header.specs.declared.Found.{Found}
@@ -23,7 +25,7 @@ use Rattle.header.specs.declared.Sought.{Sought}
 use Rattle.rules.specs.Sets.{has, least, tabulate}
 use Rattle.rules.specs.Net.{Far}
 use Rattle.rules.specs.Header.{permits}
-use Rattle.rules.specs.Tries.{choice, reach, tries}
+use Rattle.rules.specs.Tries.{choice, common, reach, tries}
 use Rattle.rules.specs.Run.{best}
 use Rattle.rules.specs.Table.{switches}
 
@@ -91,3 +93,15 @@ singles far size m c = tabulate 8 (λ p. cond (has p c) (reach far size m (2 ^ p
 unfoldable pub joined : List ℕ → ℕ → ℕ → ℕ
 joined sets w zero = 0
 joined sets w (suc k) = cond (has k w) (bitOr (joined sets w k) (getD sets k 0)) (joined sets w k)
+
+-- ---- sets that the search does not tell apart
+
+module _ (far : ℕ → ℕ → Far) (size : ℕ) (mask : ℕ → ℕ) where
+  -- their common ports are the same, and each of these reaches the same set from both
+  pub record Alike (a b : ℕ) : Type 0 where
+    pub commons : common size mask a ≡ common size mask b
+    pub reached : (p : ℕ) → T (has p (common size mask a)) → reach far size a (2 ^ p) ≡ reach far size b (2 ^ p)
+
+  pub record Grouped (m c : ℕ) (sets : List ℕ) : Type 0 where
+    pub inside : (p : ℕ) → p < 8 → getD sets p 0 < 2 ^ size
+    pub alike : (p : ℕ) → p < 8 → Alike (getD sets p 0) (getD (singles far size m c) p 0)

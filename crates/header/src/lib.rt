@@ -16,7 +16,7 @@ ghost use Rattle.rules.specs.Sets.{within};
 ghost use Rattle.rules.specs.Table.{house, switches, farOf};
 ghost use Rattle.rules.specs.Tries.{common, chooses, reach};
 ghost use Rattle.rules.specs.Promise.{Tested, Issued};
-ghost use Rattle.header.specs.Found.{nextChoice, Searches, Stages, Recalls, Gives, singles, joined, foundOf, lastFound, widerFound, beyondFound};
+ghost use Rattle.header.specs.Found.{nextChoice, Searches, Stages, Recalls, Gives, Alike, Grouped, singles, joined, foundOf, lastFound, widerFound, beyondFound};
 ghost use Rattle.header.specs.Pairs.{issuePair, issuePairMemory, testPair};
 
 // The widest header found: its words at the end of the eight, the number of lists it permits, 0 where there is none, and the tries; or
@@ -171,7 +171,7 @@ fn seek(table: &[u16], masks: &[u8; 64], set: u64, left: usize, budget: u32, nex
     if left == 1 {
         return keep(last(ports), next);
     }
-    let sets = by_port(table, set, ports);
+    let sets = grouped(table, masks, set, ports);
     let mut near = next;
     let mut after = nothing();
     let mut best = last(0);
@@ -343,6 +343,49 @@ fn by_port(table: &[u16], set: u64, ports: u8) -> [u64; 8]
         p += 1;
     }
     sets
+}
+
+// For each of the ports a set from which the search goes on as from the one that the port alone reaches. Ports that follow each other and
+// are alike have the set of the first of them, so that it is searched once.
+fn grouped(table: &[u16], masks: &[u8; 64], set: u64, ports: u8) -> [u64; 8]
+    requires { ⌜ Stages (now table) set ⌝ }
+    ensures { λ r. ⌜ Grouped (farOf house (now (table .entry))) (switches (now (table .entry))) (λ s. getD (now (masks .entry)) s 0) set ports r ⌝ }
+{
+    let mut sets = by_port(table, set, ports);
+    let mut first: u64 = 0;
+    let mut p = 0;
+    while p < 8 {
+        if (ports >> p) % 2 == 1 {
+            if alike(table, masks, first, sets[p]) {
+                sets[p] = first;
+            } else {
+                first = sets[p];
+            }
+        }
+        p += 1;
+    }
+    sets
+}
+
+// Whether the search surely goes on alike from two sets: they have the same common ports, and each of these reaches the same set from both.
+fn alike(table: &[u16], masks: &[u8; 64], a: u64, b: u64) -> bool
+    requires { ⌜ Stages (now table) a × Stages (now table) b ⌝ }
+    ensures { λ r. ⌜ (r ≡ true → Alike (farOf house (now (table .entry))) (switches (now (table .entry))) (λ s. getD (now (masks .entry)) s 0) a b) ⌝ }
+{
+    let ports = common_of(masks, a);
+    if common_of(masks, b) != ports {
+        return false;
+    }
+    let mut p = 0;
+    while p < 8 {
+        if (ports >> p) % 2 == 1 {
+            if follow(table, a, p) != follow(table, b, p) {
+                return false;
+            }
+        }
+        p += 1;
+    }
+    true
 }
 
 // The set that port p reaches from the set.

@@ -1,6 +1,7 @@
 -- `header::seek` meets its contract. With one word left the widest header is all common ports. Else the loop keeps the widest of the headers
--- whose first word is below the next choice, and the tries so far: the definitions' own recursion, word by word. What is kept of the set that
--- was searched last is what the recursion would give again. The measures are the words left, and what is left of 256. Assumes nothing.
+-- whose first word is below the next choice, and the tries so far: the definitions' own recursion, word by word. A set that is alike to the one
+-- a word reaches gives the same, and what is kept of the set that was searched last is what the recursion would give again. The measures are
+-- the words left, and what is left of 256. Assumes nothing.
 use Prim.Native.Nat.{ℕ, _+_, _-_, _<_}
 use native.Mathlib.Omega.{arith}
 use mathlib.Core.Path.{_≡_, refl, _∙_}
@@ -18,9 +19,9 @@ use Rattle.header.proofs.seek.Reads as seek
 use Rattle.header.proofs.seek.Kinds as seek-kinds
 use Rattle.header.proofs.+seek.Lts-seek as seek-lts
 use Rattle.header.proofs.beyond.Reads as beyond-reads
-use Rattle.header.proofs.by_port.Reads as by-port-reads
 use Rattle.header.proofs.byte.Reads as byte-reads
 use Rattle.header.proofs.common_of.Reads as common-of-reads
+use Rattle.header.proofs.grouped.Reads as grouped-reads
 use Rattle.header.proofs.join.Reads as join-reads
 use Rattle.header.proofs.keep.Reads as keep-reads
 use Rattle.header.proofs.last.Reads as last-reads
@@ -45,7 +46,7 @@ seek-below t = and 2 seek-kinds.ps (falls 2 seek-kinds.ps _<_ μ-seek t) seek.Pr
 
 -- the readings of all that it calls
 abbrev calls : ℕ → seek-lts.Claims
-calls t = (common-of-reads.Asked, common-of-reads.Learnt, last-reads.Asked, last-reads.Learnt, keep-reads.Asked, keep-reads.Learnt, by-port-reads.Asked, by-port-reads.Learnt, nothing-reads.Asked, nothing-reads.Learnt, next-choice-reads.Asked, next-choice-reads.Learnt, beyond-reads.Asked, beyond-reads.Learnt, byte-reads.Asked, byte-reads.Learnt, join-reads.Asked, join-reads.Learnt, other-reads.Asked, other-reads.Learnt, seek-below t, seek.Post, told-reads.Asked, told-reads.Learnt, wider-reads.Asked, wider-reads.Learnt, total-reads.Asked, total-reads.Learnt)
+calls t = (common-of-reads.Asked, common-of-reads.Learnt, last-reads.Asked, last-reads.Learnt, keep-reads.Asked, keep-reads.Learnt, grouped-reads.Asked, grouped-reads.Learnt, nothing-reads.Asked, nothing-reads.Learnt, next-choice-reads.Asked, next-choice-reads.Learnt, beyond-reads.Asked, beyond-reads.Learnt, byte-reads.Asked, byte-reads.Learnt, join-reads.Asked, join-reads.Learnt, other-reads.Asked, other-reads.Learnt, seek-below t, seek.Post, told-reads.Asked, told-reads.Learnt, wider-reads.Asked, wider-reads.Learnt, total-reads.Asked, total-reads.Learnt)
 
 abbrev Inv-loop : seek-lts.InvT-loop
 Inv-loop table masks set left budget ports sets near₀ after₀ best₀ tries₀ w₀ near after best tries w = Search table masks set left budget ports best tries w × Memory table masks left near after
@@ -56,12 +57,12 @@ abbrev μ-loop : seek-lts.MeasureT-loop
 -- what is known from before the loop on
 known : (t : ℕ) (c : seek-lts.At-loop (calls t) (seek-at t) seek.Post Inv-loop μ-loop)
     → let p = c .before .before .before .before in
-    let a = p .before .before .before .before .args in Known (a .table .now) (a .masks .now) (a .set) (a .left) (a .budget) (p .before .before .common-of .result) (p .by-port .result)
+    let a = p .before .before .before .before .args in Known (a .table .now) (a .masks .now) (a .set) (a .left) (a .budget) (p .before .before .common-of .result) (p .grouped .result)
 known t c = let p = c .before .before .before .before in record {
   searches = p .before .before .before .before .pre .1 .0;
   deep = p .before .if1 .left;
   common-ports = p .before .before .common-of .ensures;
-  port-sets = p .by-port .ensures;
+  port-sets = p .grouped .ensures;
 }
 
 -- what is told is what the search from the set reached finds, where it was searched now and where it was before
