@@ -1,5 +1,6 @@
 // A plain C version of header issue, the header test, distance and the field reader, written from paper 01 and not from
-// the Rattle code: what the library is measured against. It is right for every input, and direct: one search from the
+// the Rattle code: what the library is measured against. It answers every input and is held to 01's cases before each run.
+// It is direct: one search from the
 // source and one back from the destination, masks by 01's rule, and a header search that makes the reached set anew for
 // each choice.
 #ifndef PLAIN_H

@@ -14,8 +14,8 @@ struct side {
     uint64_t (*table_test)(const uint16_t *, size_t, uint64_t, uint64_t, const uint8_t *, size_t);
 };
 
-// Whether a side answers 01's cases 1 and 3 to 6 as 01 says; tells of each that it doesn't. (Case 2 is of masks, which
-// neither side of the measurement has.)
+// Whether a side answers 01's cases 1 and 3 to 6 as 01 says; tells of each that it doesn't. (Cases 2 and 7 are of masks and walks,
+// which the measurement has not.)
 bool cases_hold(const struct side *side);
 
 #endif

@@ -7,7 +7,7 @@
  *
  * A slice is a pointer, then a length counted in elements; an empty one may be NULL, 0. A slice that is written must
  * not overlap another, and a table must be aligned for its elements. Every table, processor number, header and length
- * gets an answer; nothing needs to be checked before a call, and nothing is kept between calls.
+ * gets an answer; no value needs to be checked before a call, and nothing is kept between calls.
  *
  * An answer is one number: the refusal number in the lowest 8 bits, the other parts above it, to be read by the
  * functions at the end of this file. On refusal no lent byte is changed. Where several refusals hold, the lowest number
@@ -23,7 +23,7 @@ extern "C" {
 #endif
 
 enum {
-    REEDLOCKET_FIRST_PROCESSOR = 1000, /* the entry of processor 0; the last one is 511 */
+    REEDLOCKET_FIRST_PROCESSOR = 1000, /* the entry of processor 0; that of processor 511 is 1511 */
     REEDLOCKET_NO_LINK = 65535,
     REEDLOCKET_WORDS = 8,    /* the most words of a header, and the output bytes that header issue needs */
     REEDLOCKET_ENTRIES = 512 /* the most entries of a table, and the numbers that reedlocket_fields needs */
@@ -87,7 +87,7 @@ uint64_t reedlocket_table_test(const uint16_t *table, size_t table_len, uint64_t
 
 /* Walks one packet from the source. Each switch takes the first word, uses the permitted port that has exactly (choice
  * modulo the number of permitted ports) permitted ports below it, and strips the word. Choice bytes beyond the words
- * are not read. Writes nothing. Answers the ending, the processor or switch at which it came, the hops, and the words
+ * are not read. Writes nothing. Answers the ending, the processor or switch at which it ended, the hops, and the words
  * left; at REEDLOCKET_EMPTY and REEDLOCKET_OFF the word being read counts as left. Refuses with 1 to 4, 10 or 11. */
 uint64_t reedlocket_table_walk(const uint16_t *table, size_t table_len, uint64_t source, const uint8_t *header,
                                size_t header_len, const uint8_t *choices, size_t choices_len);
@@ -114,7 +114,8 @@ static inline uint64_t reedlocket_answer_part(uint64_t answer, unsigned from_bit
     return answer >> from_bit & (((uint64_t)1 << bits) - 1);
 }
 
-/* Of the two header functions, distance and masks; distance and masks have count and tries 0. */
+/* Of reedlocket_header, reedlocket_table_header, reedlocket_table_distance and reedlocket_table_masks; the last two have
+ * count and tries 0. */
 static inline unsigned reedlocket_answer_distance(uint64_t answer)
 {
     return (unsigned)reedlocket_answer_part(answer, 8, 8);
@@ -133,7 +134,7 @@ static inline uint32_t reedlocket_answer_tries(uint64_t answer)
 /* Of the test: REEDLOCKET_YES, REEDLOCKET_NO, or 0 on refusal. */
 static inline unsigned reedlocket_test_says(uint64_t answer) { return (unsigned)reedlocket_answer_part(answer, 8, 8); }
 
-/* Of the walk. The processor is reached at REEDLOCKET_DELIVERED and REEDLOCKET_LEFTOVER, else a switch. */
+/* Of the walk; reedlocket_walk_at is a processor at REEDLOCKET_DELIVERED and REEDLOCKET_LEFTOVER, else a switch. */
 static inline unsigned reedlocket_walk_ending(uint64_t answer)
 {
     return (unsigned)reedlocket_answer_part(answer, 8, 8);

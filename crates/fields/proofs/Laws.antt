@@ -55,9 +55,6 @@ past-end b tag size at n i h q e stop =
     least-one {n = n} {f = λ k. not (isField b tag size (at k))} (record { bound = h .few; before = λ j l t. T-not (isField b tag size (at j)) t (h .all j l); hit = λ l. not-T (isField b tag size (at i)) (λ t. subst T (stop l) (subst (λ (q : ℕ). T (isField b tag size q)) (sym e) t)) }) (least-is n (λ k. not (isField b tag size (at k))))
 
 -- the fields counted stand within the input
-pub rows-few : (b : List ℕ) → rows b 64 ≤ 64
-rows-few b = upto-is b house .few
-
 pub rows-within : (b : List ℕ) → 19 * rows b 64 ≤ length b
 rows-within b = let w = upto-within b house (rows b 64) 0 (19 * rows b 64 + 7 * 0) (upto-rows b house) in omega arith
 

@@ -4,9 +4,10 @@ use Prim.Native.Nat.{ℕ, _+_, _*_, _≤_, _<_}
 use mathlib.Core.Path.{_≡_, refl, sym, ap, _∙_}
 use mathlib.Core.Bool.{cond}
 use mathlib.Core.List.{List, [], _∷_, _++_}
-use lib.ListN.{length, take, drop}
+use lib.ListN.{length, take, drop, replicate, length-replicate}
 use lib.Dec.{ltb}
 use lib.Seq.{take-at}
+use native.Mathlib.Nat.{le-of-eq}
 use native.Mathlib.Decide.{decLe}
 use native.Mathlib.Omega.{arith}
 use borrow.Author.Tests.{lt-ltb, le-ltb}
@@ -19,6 +20,10 @@ use Rattle.rules.specs.RunFields.{rows, pairs, entries, look12, fieldsJudgement
 use Rattle.rules.proofs.FieldLaws.{entries-length}
 use Rattle.rules.proofs.FieldPromises.{filled-met, filled-only}
 use Rattle.fields.specs.Rows.{rowsJudgement, rowsOf, rowsMemory}
+
+-- a table lent whole has room for every table
+pub room : (x : ℕ) → 512 ≤ length (replicate 512 x)
+room x = le-of-eq (sym (length-replicate 512 x))
 
 -- ---- any reader whose fields end at the offset q
 

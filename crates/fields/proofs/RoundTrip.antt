@@ -15,7 +15,7 @@ use Rattle.rules.specs.Text.{lines, Tells}
 use Rattle.rules.specs.Refusals.{tooShort}
 use Rattle.rules.proofs.Says.{Clear, clear-says}
 use Rattle.rules.proofs.FieldLaws.{upto-one, end-stops}
-use Rattle.fields.specs.Write.{blocks, big, rowField, pairField, written}
+use Rattle.fields.specs.Write.{big, rowField, pairField, written}
 
 -- ---- f stands in b at offset o
 
@@ -43,25 +43,25 @@ stands-get b o f h i q e l =
 stands-within : (b : List ℕ) (o : ℕ) (f : List ℕ) → Stands b o f → o + length f ≤ length b
 stands-within b o f h = let e = simp length-append at (ap length (h .is)) in let m = h .at in omega arith
 
--- ---- blocks of one length
+-- ---- pieces of one length
 
 module _ (m : ℕ) where
-  blocks-length : (n : ℕ) (f : ℕ → List ℕ) → ((j : ℕ) → length (f j) ≡ m) → length (blocks n f) ≡ m * n
-  unfolding blocks
-  blocks-length zero f h = sym (mul-zero m)
-  blocks-length (suc n) f h =
-      let e = blocks-length n (λ k. f (suc k)) (λ j. h (suc j)) in
+  lines-length : (n : ℕ) (f : ℕ → List ℕ) → ((j : ℕ) → length (f j) ≡ m) → length (lines n f) ≡ m * n
+  unfolding lines
+  lines-length zero f h = sym (mul-zero m)
+  lines-length (suc n) f h =
+      let e = lines-length n (λ k. f (suc k)) (λ j. h (suc j)) in
       simp length-append (omega (arith, h 0, mul-suc m n))
 
-  block-stands : (n : ℕ) (f : ℕ → List ℕ) → ((j : ℕ) → length (f j) ≡ m) → (r : List ℕ) (j : ℕ) → j < n → Stands (blocks n f ++ r) (m * j) (f j)
-  unfolding blocks
+  block-stands : (n : ℕ) (f : ℕ → List ℕ) → ((j : ℕ) → length (f j) ≡ m) → (r : List ℕ) (j : ℕ) → j < n → Stands (lines n f ++ r) (m * j) (f j)
+  unfolding lines
   block-stands zero f h r j l = absurd (not-suc-le-zero l)
   block-stands (suc n) f h r zero l =
-      record { before = []; after = blocks n (λ k. f (suc k)) ++ r; is = append-assoc (f 0) (blocks n (λ k. f (suc k))) r; at = sym (mul-zero m) }
+      record { before = []; after = lines n (λ k. f (suc k)) ++ r; is = append-assoc (f 0) (lines n (λ k. f (suc k))) r; at = sym (mul-zero m) }
   block-stands (suc n) f h r (suc j) l =
       let k = block-stands n (λ k. f (suc k)) (λ j. h (suc j)) r j (le-of-suc-le-suc l) in
       let e : length (f 0) + m * j ≡ m * suc j = omega (arith, h 0, mul-suc m j) in
-      subst₂ (λ (b : List ℕ) (o : ℕ). Stands b o (f (suc j))) (sym (append-assoc (f 0) (blocks n (λ k. f (suc k))) r)) e (stands-right (f 0) k)
+      subst₂ (λ (b : List ℕ) (o : ℕ). Stands b o (f (suc j))) (sym (append-assoc (f 0) (lines n (λ k. f (suc k))) r)) e (stands-right (f 0) k)
 
 -- ---- fields
 
@@ -74,15 +74,15 @@ stands-field b o tag n v h e =
     record { tagged = stands-get b o f h 0 o (omega arith) (omega arith); long = omega arith; whole = omega arith }
 
 row-field : (b : List ℕ) (o : ℕ) (e : ℕ → ℕ) → Stands b o (rowField e) → Field b 1 16 o
-unfolding rowField blocks big
-row-field b o e h = stands-field b o 1 16 (blocks 8 (λ p. big (e p))) h refl
+unfolding rowField lines big
+row-field b o e h = stands-field b o 1 16 (lines 8 (λ p. big (e p))) h refl
 
 pair-field : (b : List ℕ) (o : ℕ) (p : ℕ × ℕ) → Stands b o (pairField p) → Field b 2 4 o
 unfolding pairField big
 pair-field b o p h = stands-field b o 2 4 (big (p .0) ++ big (p .1)) h refl
 
 row-length : (e : ℕ → ℕ) → length (rowField e) ≡ 19
-unfolding rowField blocks big
+unfolding rowField lines big
 row-length e = refl
 
 pair-length : (p : ℕ × ℕ) → length (pairField p) ≡ 7
@@ -105,7 +105,7 @@ stands-two b o x h =
 entry-stands : (e : ℕ → ℕ) (p : ℕ) → p < 8 → Stands (rowField e) (3 + 2 * p) (big (e p))
 unfolding rowField
 entry-stands e p l =
-    stands-right (1 ∷ 0 ∷ 16 ∷ []) (subst (λ (b : List ℕ). Stands b (2 * p) (big (e p))) (append-nil (blocks 8 (λ p. big (e p)))) (block-stands 2 8 (λ p. big (e p)) (λ j. big-length (e j)) [] p l))
+    stands-right (1 ∷ 0 ∷ 16 ∷ []) (subst (λ (b : List ℕ). Stands b (2 * p) (big (e p))) (append-nil (lines 8 (λ p. big (e p)))) (block-stands 2 8 (λ p. big (e p)) (λ j. big-length (e j)) [] p l))
 
 -- ---- what is written, for k switches
 
@@ -116,22 +116,22 @@ module _ (t : List ℕ) (ps : List (ℕ × ℕ)) (k : ℕ) (e : length t ≡ 8 *
   pairOf : ℕ → List ℕ
   pairOf i = pairField (getD ps i (0, 0))
 
-  written-is : written t ps ≡ blocks k rowAt ++ blocks (length ps) pairOf
+  written-is : written t ps ≡ lines k rowAt ++ lines (length ps) pairOf
   unfolding written rowAt pairOf
-  written-is = let m : length t / 8 ≡ k = omega arith in ap (λ (n : ℕ). blocks n rowAt ++ blocks (length ps) pairOf) m
+  written-is = let m : length t / 8 ≡ k = omega arith in ap (λ (n : ℕ). lines n rowAt ++ lines (length ps) pairOf) m
 
-  rows-length : length (blocks k rowAt) ≡ 19 * k
+  rows-length : length (lines k rowAt) ≡ 19 * k
   unfolding rowAt
-  rows-length = blocks-length 19 k rowAt (λ s. row-length (λ p. getD t (8 * s + p) 0))
+  rows-length = lines-length 19 k rowAt (λ s. row-length (λ p. getD t (8 * s + p) 0))
 
   row-stands : (s : ℕ) → s < k → Stands (written t ps) (19 * s) (rowAt s)
   unfolding rowAt
-  row-stands s l = rw written-is (block-stands 19 k rowAt (λ s. row-length (λ p. getD t (8 * s + p) 0)) (blocks (length ps) pairOf) s l)
+  row-stands s l = rw written-is (block-stands 19 k rowAt (λ s. row-length (λ p. getD t (8 * s + p) 0)) (lines (length ps) pairOf) s l)
 
   pair-stands : (i : ℕ) → i < length ps → Stands (written t ps) (19 * k + 7 * i) (pairOf i)
   unfolding pairOf
   pair-stands i l =
-      rw (written-is, ← rows-length) (stands-right (blocks k rowAt) (rw append-nil at (block-stands 7 (length ps) pairOf (λ i. pair-length (getD ps i (0, 0))) [] i l)))
+      rw (written-is, ← rows-length) (stands-right (lines k rowAt) (rw append-nil at (block-stands 7 (length ps) pairOf (λ i. pair-length (getD ps i (0, 0))) [] i l)))
 
   pub written-upto : k ≤ 64 → Upto (written t ps) house k (length ps) (length (written t ps))
   unfolding rowAt pairOf
@@ -140,7 +140,7 @@ module _ (t : List ℕ) (ps : List (ℕ × ℕ)) (k : ℕ) (e : length t ≡ 8 *
         few = l;
         rows = λ j m. let q : 19 * j ≡ 19 * j + 7 * 0 = omega arith in subst (Field (written t ps) 1 16) q (row-field (written t ps) (19 * j) (λ p. getD t (8 * j + p) 0) (row-stands j m));
         pairs = λ j m. pair-field (written t ps) (19 * k + 7 * j) (getD ps j (0, 0)) (pair-stands j m);
-        ends = ap length written-is ∙ length-append (blocks k rowAt) (blocks (length ps) pairOf) ∙ ap₂ _+_ rows-length (blocks-length 7 (length ps) pairOf (λ i. pair-length (getD ps i (0, 0))));
+        ends = ap length written-is ∙ length-append (lines k rowAt) (lines (length ps) pairOf) ∙ ap₂ _+_ rows-length (lines-length 7 (length ps) pairOf (λ i. pair-length (getD ps i (0, 0))));
       }
 
   pub written-holds : Holds (written t ps) k t
@@ -184,10 +184,10 @@ bytes-append : (a b : List ℕ) → Bytes a → Bytes b → Bytes (a ++ b)
 bytes-append [] b h k = k
 bytes-append (x ∷ a) b h k = bytes-cons x (a ++ b) (h 0) (bytes-append a b (λ i. h (suc i)) k)
 
-bytes-blocks : (n : ℕ) (f : ℕ → List ℕ) → ((j : ℕ) → Bytes (f j)) → Bytes (blocks n f)
-unfolding blocks
-bytes-blocks zero f h = λ i. omega arith
-bytes-blocks (suc n) f h = bytes-append (f 0) (blocks n (λ k. f (suc k))) (h 0) (bytes-blocks n (λ k. f (suc k)) (λ j. h (suc j)))
+bytes-lines : (n : ℕ) (f : ℕ → List ℕ) → ((j : ℕ) → Bytes (f j)) → Bytes (lines n f)
+unfolding lines
+bytes-lines zero f h = λ i. omega arith
+bytes-lines (suc n) f h = bytes-append (f 0) (lines n (λ k. f (suc k))) (h 0) (bytes-lines n (λ k. f (suc k)) (λ j. h (suc j)))
 
 bytes-big : (x : ℕ) → x < 65536 → Bytes (big x)
 unfolding big
@@ -198,7 +198,7 @@ bytes-field tag n v l m h = bytes-cons tag (0 ∷ n ∷ v) l (bytes-cons 0 (n �
 
 pub written-bytes : (t : List ℕ) (ps : List (ℕ × ℕ)) → ((i : ℕ) → getD t i 0 < 65536) → ((i : ℕ) → (getD ps i (0, 0) .0 < 65536) × (getD ps i (0, 0) .1 < 65536)) → (i : ℕ) → getD (written t ps) i 0 < 256
 unfolding written rowField pairField
-written-bytes t ps h k = bytes-append (blocks (length t / 8) row) (blocks (length ps) pair) (bytes-blocks (length t / 8) row rows) (bytes-blocks (length ps) pair pairs)
+written-bytes t ps h k = bytes-append (lines (length t / 8) row) (lines (length ps) pair) (bytes-lines (length t / 8) row rows) (bytes-lines (length ps) pair pairs)
   where
     row : ℕ → List ℕ
     row s = rowField (λ p. getD t (8 * s + p) 0)
@@ -207,7 +207,7 @@ written-bytes t ps h k = bytes-append (blocks (length t / 8) row) (blocks (lengt
     pair i = pairField (getD ps i (0, 0))
 
     rows : (s : ℕ) → Bytes (row s)
-    rows s = bytes-field 1 16 (blocks 8 (λ p. big (getD t (8 * s + p) 0))) (omega arith) (omega arith) (bytes-blocks 8 (λ p. big (getD t (8 * s + p) 0)) (λ p. bytes-big (getD t (8 * s + p) 0) (h (8 * s + p))))
+    rows s = bytes-field 1 16 (lines 8 (λ p. big (getD t (8 * s + p) 0))) (omega arith) (omega arith) (bytes-lines 8 (λ p. big (getD t (8 * s + p) 0)) (λ p. bytes-big (getD t (8 * s + p) 0) (h (8 * s + p))))
 
     pairs : (i : ℕ) → Bytes (pair i)
     pairs i =

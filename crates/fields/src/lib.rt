@@ -76,8 +76,8 @@ pub fn pair(bytes: &[u8], at: usize) -> Ends
         };
     }
     Ends {
-        source: word(bytes, at + 3),
-        target: word(bytes, at + 5),
+        source: number_at(bytes, at + 3),
+        target: number_at(bytes, at + 5),
     }
 }
 
@@ -132,7 +132,7 @@ fn is_field(bytes: &[u8], tag: u8, size: usize, at: usize) -> bool
     if bytes[at] != tag {
         return false;
     }
-    wide(word(bytes, at + 1)) == size
+    wide(number_at(bytes, at + 1)) == size
 }
 
 // Writes the entries of the first `switches` fields over the start of the table.
@@ -142,13 +142,13 @@ fn fill(bytes: &[u8], switches: usize, table: &mut [u16])
 {
     let mut i = 0;
     while i < 8 * switches {
-        table[i] = word(bytes, 19 * (i / 8) + 3 + 2 * (i % 8));
+        table[i] = number_at(bytes, 19 * (i / 8) + 3 + 2 * (i % 8));
         i += 1;
     }
 }
 
 // The two-byte number at an offset.
-fn word(bytes: &[u8], at: usize) -> u16
+fn number_at(bytes: &[u8], at: usize) -> u16
     requires { ⌜ at + 1 < length (now bytes) ⌝ }
     ensures { λ r. ⌜ r ≡ two (now (bytes .entry)) at ⌝ }
 {

@@ -14,14 +14,13 @@ use lib.Bits.{bitOr, or-lt}
 use lib.Pow.{pow-pos}
 use Rattle.rules.specs.Sets.{has}
 use Rattle.rules.specs.Net.{Far, Wired}
-use Rattle.rules.specs.Tries.{choice, common, reach, reaches, tries}
+use Rattle.rules.specs.Tries.{choice, common, reach, tries}
 use Rattle.rules.specs.Run.{widest, best}
-use Rattle.rules.proofs.SetLaws.{setOf-lt}
 use Rattle.rules.proofs.Counted.{sum-same}
 use Rattle.rules.proofs.Search.{in-reach}
 use Rattle.header.specs.Found.{found, foundOf, beyondFound, singles, joined, Alike, Grouped}
 use Rattle.header.proofs.LastStage.{choice-in}
-use Rattle.header.proofs.LeafLaws.{same-members, in-or, in-common, in-single, singles-at, joined-reach}
+use Rattle.header.proofs.LeafLaws.{same-members, in-or, reach-lt, in-common, in-single, singles-at, joined-reach}
 
 pick : {A : Type 0} (x : Bool) (f g z : A) → (T x → f ≡ g) → cond x f z ≡ cond x g z
 pick true f g z e = e tt
@@ -37,15 +36,11 @@ module _ (far : ℕ → ℕ → Far) (size : ℕ) (mask : ℕ → ℕ) where
     reached = λ p t. h .reached p t ∙ k .reached p (subst (λ (x : ℕ). T (has p x)) (h .commons) t);
   }
 
-  reach-lt : (m w : ℕ) → reach far size m w < 2 ^ size
-  unfolding reach
-  reach-lt m w = setOf-lt size (reaches far size m (λ _. w))
-
   pub single-lt : (m c p : ℕ) → p < 8 → getD (singles far size m c) p 0 < 2 ^ size
   single-lt m c p l = subst (λ (x : ℕ). x < 2 ^ size) (sym (singles-at far size m c p l)) (at (has p c))
     where
       at : (b : Bool) → cond b (reach far size m (2 ^ p)) 0 < 2 ^ size
-      at true = reach-lt m (2 ^ p)
+      at true = reach-lt far size m (2 ^ p)
       at false = pow-pos size
 
   module _ (wired : Wired far size) where

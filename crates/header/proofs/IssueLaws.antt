@@ -21,7 +21,7 @@ use Rattle.header.specs.Pairs.{issuePairJudgement, issuePair, issuePairM
 use Rattle.rules.specs.Promise.{Judged, Issued, Tested}
 use Rattle.rules.proofs.Kept.{issued-met, tested-met}
 use Rattle.rules.proofs.Says.{refused-false, first-stop, first-past, answered-accepted, answered-refused, kept-accepted, kept-refused}
-use Rattle.wiring.proofs.Found.{judge-refuses, judge-is}
+use Rattle.wiring.proofs.Found.{judge-refuses, judge-is, judge-number}
 use Rattle.ways.proofs.PairLaws.{bare, judged-first, five}
 
 module _ (z : Sizes) (t : List ℕ) (a d : ℕ) where
@@ -95,21 +95,18 @@ module _ (z : Sizes) (t : List ℕ) (a d : ℕ) where
 
   -- ---- the ways out of `issue` and `test`: the judge, and then the pair
   module _ {j : Judgement} (h : Judged z t j) where
-    number-is : j .number ≡ judgeOf z t .number
-    number-is = ap (λ (x : Judgement). x .number) (judge-is z t h)
-
     pub issued-refused : (out : List ℕ) {r : Answer} → ¬ (j .number ≡ 0) → r ≡ bare j → Issued z t a d out r out
     issued-refused out n e =
-        let m = issue-refused out (λ k. n (number-is ∙ k)) in
+        let m = issue-refused out (λ k. n (judge-number z t h ∙ k)) in
         subst₂ (Issued z t a d out) (m .0 ∙ sym (e ∙ ap bare (judge-is z t h))) (m .1) (issued-met z t a d out)
 
     pub issued-given : (out : List ℕ) {r : Answer} {o : List ℕ} → j .number ≡ 0 → (r ≡ issuePair z t a d out) × (o ≡ issuePairMemory z t a d out) → Issued z t a d out r o
     issued-given out n e =
-        let m = issue-judged out (sym number-is ∙ n) in subst₂ (Issued z t a d out) (m .0 ∙ sym (e .0)) (m .1 ∙ sym (e .1)) (issued-met z t a d out)
+        let m = issue-judged out (sym (judge-number z t h) ∙ n) in subst₂ (Issued z t a d out) (m .0 ∙ sym (e .0)) (m .1 ∙ sym (e .1)) (issued-met z t a d out)
 
     pub tested-refused : (ws : List ℕ) {r : TestAnswer} {b : Answer} → ¬ (j .number ≡ 0) → b ≡ bare j → r ≡ record { answer = b; says = Neither } → Tested z t a d ws r
     tested-refused ws n f e =
-        subst (Tested z t a d ws) (test-refused ws (λ k. n (number-is ∙ k)) ∙ sym (e ∙ ap (λ (x : Answer). record { answer = x; says = Neither }) (f ∙ ap bare (judge-is z t h)))) (tested-met z t a d ws)
+        subst (Tested z t a d ws) (test-refused ws (λ k. n (judge-number z t h ∙ k)) ∙ sym (e ∙ ap (λ (x : Answer). record { answer = x; says = Neither }) (f ∙ ap bare (judge-is z t h)))) (tested-met z t a d ws)
 
     pub tested-given : (ws : List ℕ) {r : TestAnswer} → j .number ≡ 0 → r ≡ testPair z t a d ws → Tested z t a d ws r
-    tested-given ws n e = subst (Tested z t a d ws) (test-judged ws (sym number-is ∙ n) ∙ sym e) (tested-met z t a d ws)
+    tested-given ws n e = subst (Tested z t a d ws) (test-judged ws (sym (judge-number z t h) ∙ n) ∙ sym e) (tested-met z t a d ws)

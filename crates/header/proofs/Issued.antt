@@ -31,39 +31,39 @@ use Rattle.rules.proofs.Says.{first-none, first-some, answered-refused, answere
 use Rattle.rules.proofs.Lists.{getD-tabulate}
 use Rattle.rules.proofs.Pair.{header-is, passes-length}
 use Rattle.rules.proofs.Tables.{farOf-wired}
-use Rattle.ways.proofs.PairLaws.{bare}
+use Rattle.ways.proofs.PairLaws.{bare, pair-number}
 use Rattle.ways.proofs.MeetLaws.{nothing-said}
 use Rattle.header.proofs.Same.{chooses-same, tries-same, best-same}
-use Rattle.header.proofs.Opened.{Opened, pair-number, opened, start-is}
+use Rattle.header.proofs.Opened.{Opened, opened, start-is}
 use Rattle.header.proofs.IssueLaws.{issue-stop, issue-last, issue-bare, issue-made, saying, test-bare}
 
 -- what an answer and the lent output are to be
-abbrev Gives : List ℕ → ℕ → ℕ → List ℕ → Answer → List ℕ → Type 0
-Gives t a d out r o = (r ≡ issuePair house t a d out) × (o ≡ issuePairMemory house t a d out)
+abbrev Issues : List ℕ → ℕ → ℕ → List ℕ → Answer → List ℕ → Type 0
+Issues t a d out r o = (r ≡ issuePair house t a d out) × (o ≡ issuePairMemory house t a d out)
 
 module _ (t : List ℕ) (a d : ℕ) {p : Pair} (is : p ≡ pairOf house t a d) where
   bare-pair : ¬ (p .answer .number ≡ 0) → p .answer ≡ bare (pairJudgement house t a d)
   unfolding pairOf
-  bare-pair n = ap (λ (x : Pair). x .answer) is ∙ answered-refused (pairJudgement house t a d) (distance house t a d) 0 0 (λ e. n (pair-number t a d is ∙ e))
+  bare-pair n = ap (λ (x : Pair). x .answer) is ∙ answered-refused (pairJudgement house t a d) (distance house t a d) 0 0 (λ e. n (pair-number house t a d is ∙ e))
 
-  gives-bare : (out : List ℕ) {r : Answer} (j : Judgement) → issuePairJudgement house t a d out ≡ j → ¬ (j .number ≡ 0) → r ≡ bare j → Gives t a d out r out
-  gives-bare out j e n f = let m = issue-bare house t a d out j e n in (f ∙ sym (m .0), sym (m .1))
+  issues-bare : (out : List ℕ) {r : Answer} (j : Judgement) → issuePairJudgement house t a d out ≡ j → ¬ (j .number ≡ 0) → r ≡ bare j → Issues t a d out r out
+  issues-bare out j e n f = let m = issue-bare house t a d out j e n in (f ∙ sym (m .0), sym (m .1))
 
-  pub issue-none : (out : List ℕ) → ¬ (p .answer .number ≡ 0) → Gives t a d out (p .answer) out
+  pub issue-none : (out : List ℕ) → ¬ (p .answer .number ≡ 0) → Issues t a d out (p .answer) out
   issue-none out n =
-      let k : ¬ (pairJudgement house t a d .number ≡ 0) = λ e. n (pair-number t a d is ∙ e) in
-      gives-bare out (pairJudgement house t a d) (issue-stop house t a d out k) k (bare-pair n)
+      let k : ¬ (pairJudgement house t a d .number ≡ 0) = λ e. n (pair-number house t a d is ∙ e) in
+      issues-bare out (pairJudgement house t a d) (issue-stop house t a d out k) k (bare-pair n)
 
   module _ (z : p .answer .number ≡ 0) where
     o : Opened t a d p
     o = opened t a d is z
 
     last : (out : List ℕ) → issuePairJudgement house t a d out ≡ first (look8 house t a d mostHops out ∷ look9 house t a d ∷ [])
-    last out = issue-last house t a d out (sym (pair-number t a d is) ∙ z)
+    last out = issue-last house t a d out (sym (pair-number house t a d is) ∙ z)
 
-    pub issue-short : (out : List ℕ) {r : Answer} → length out < 8 → r ≡ bare (record { number = 8; place = 0 }) → Gives t a d out r out
+    pub issue-short : (out : List ℕ) {r : Answer} → length out < 8 → r ≡ bare (record { number = 8; place = 0 }) → Issues t a d out r out
     issue-short out l f =
-        gives-bare out (record { number = 8; place = 0 }) (last out ∙ first-some 8 (ltb (length out) mostHops) _ (lt-ltb (length out) mostHops l)) (λ e. omega arith) f
+        issues-bare out (record { number = 8; place = 0 }) (last out ∙ first-some 8 (ltb (length out) mostHops) _ (lt-ltb (length out) mostHops l)) (λ e. omega arith) f
 
     -- the masks as they are kept are the masks
     kept : (s : ℕ) → s < switches t → getD (p .masks) s 0 ≡ mask house t a d s
@@ -99,10 +99,10 @@ module _ (t : List ℕ) (a d : ℕ) {p : Pair} (is : p ≡ pairOf house t a d) w
           ∙ ap₂ (λ (x y : ℕ). foundOf far size code x y 65536) (start-is o) (e ∙ ap (λ (r : Answer). r .distance) (o .told))
           ∙ ap₂ (λ (x : ℕ) (h : Option (List ℕ)). cond (ltb 65536 x) beyondFound (found h x)) (tries-same far size code m kept (k - 1) s) (best-same far size code m kept k s ∙ header .1 ∙ ap {B = Option (List ℕ)} some (sym words-are))
 
-      pub issue-over : (out : List ℕ) {r : Answer} → 8 ≤ length out → f .over ≡ true → r ≡ bare (record { number = 9; place = 0 }) → Gives t a d out r out
+      pub issue-over : (out : List ℕ) {r : Answer} → 8 ≤ length out → f .over ≡ true → r ≡ bare (record { number = 9; place = 0 }) → Issues t a d out r out
       unfolding found
       issue-over out l v g =
-          gives-bare out (record { number = 9; place = 0 })
+          issues-bare out (record { number = 9; place = 0 })
           (last out ∙ first-none 8 (ltb (length out) mostHops) _ (le-ltb (length out) mostHops l) ∙ first-some 9 (ltb limit (triesOf house t a d)) [] (at (ltb limit (triesOf house t a d)) refl))
           (λ e. omega arith) g
         where
@@ -112,7 +112,7 @@ module _ (t : List ℕ) (a d : ℕ) {p : Pair} (is : p ≡ pairOf house t a d) w
 
       pub issue-found : (out : List ℕ) {r : Answer} {w : List ℕ} → 8 ≤ length out → f .over ≡ false
           → r ≡ record { number = 0; place = 0; distance = p .answer .distance; count = f .count; tries = f .tries }
-          → w ≡ drop (8 - n) (f .words) ++ (replicate (8 - n) 0 ++ drop 8 out) → Gives t a d out r w
+          → w ≡ drop (8 - n) (f .words) ++ (replicate (8 - n) 0 ++ drop 8 out) → Issues t a d out r w
       unfolding found wordsIn countIn
       issue-found out {r} {w} l u g v = at (ltb limit (triesOf house t a d)) refl
         where
@@ -131,7 +131,7 @@ module _ (t : List ℕ) (a d : ℕ) {p : Pair} (is : p ≡ pairOf house t a d) w
           within : ltb limit (triesOf house t a d) ≡ false → f ≡ found (some ws) (triesOf house t a d)
           within h = same-found ∙ ap (λ (b : Bool). cond b beyondFound (found (some ws) (triesOf house t a d))) h
 
-          at : (b : Bool) → ltb limit (triesOf house t a d) ≡ b → Gives t a d out r w
+          at : (b : Bool) → ltb limit (triesOf house t a d) ≡ b → Issues t a d out r w
           at true h =
               let x : true ≡ false = sym (ap (λ (b : Bool). cond b beyondFound (found (some ws) (triesOf house t a d)) .over) h) ∙ sym (ap (λ (x : Found). x .over) same-found) ∙ u in
               absurd (subst (λ (b : Bool). T b) x tt)
@@ -149,29 +149,29 @@ module _ (t : List ℕ) (a d : ℕ) {p : Pair} (is : p ≡ pairOf house t a d) w
     pub test-none : {r : TestAnswer} → ¬ (p .answer .number ≡ 0) → r ≡ record { answer = p .answer; says = Neither } → r ≡ testPair house t a d ws
     unfolding testPair saying
     test-none n e =
-        e ∙ ap (λ (x : Answer). record { answer = x; says = Neither }) (bare-pair n) ∙ sym (test-bare house t a d ws (pairJudgement house t a d) (λ k. n (pair-number t a d is ∙ k)))
+        e ∙ ap (λ (x : Answer). record { answer = x; says = Neither }) (bare-pair n) ∙ sym (test-bare house t a d ws (pairJudgement house t a d) (λ k. n (pair-number house t a d is ∙ k)))
 
     hops : p .answer .number ≡ 0 → p .answer .distance ≡ distance house t a d
     hops z = ap (λ (r : Answer). r .distance) (o z .told)
 
-    module _ (z : p .answer .number ≡ 0) {b : Answer} (zeros : b ≡ bare (record { number = 0; place = 0 })) where
-      says : {r : TestAnswer} (c : Bool) → passesOf house t a d ws ≡ c → r ≡ record { answer = b; says = cond c Yes No } → r ≡ testPair house t a d ws
+    module _ (z : p .answer .number ≡ 0) where
+      says : {r : TestAnswer} (c : Bool) → passesOf house t a d ws ≡ c → r ≡ record { answer = bare (record { number = 0; place = 0 }); says = cond c Yes No } → r ≡ testPair house t a d ws
       unfolding testPair
       says c e f =
           let j = pairJudgement house t a d in
           let k = o z .judged in
           f ∙ sym (
           (λ i. record { answer = answered (k i) 0 0 0; says = cond {A = Verdict} (accepted (k i)) (cond (passesOf house t a d ws) Yes No) Neither })
-          ∙ (λ i. record { answer = (answered-accepted (record { number = 0; place = 0 }) 0 0 0 refl ∙ sym zeros) i; says = cond {A = Verdict} (accepted-true (record { number = 0; place = 0 }) refl i) (cond (e i) Yes No) Neither })
+          ∙ (λ i. record { answer = answered-accepted (record { number = 0; place = 0 }) 0 0 0 refl i; says = cond {A = Verdict} (accepted-true (record { number = 0; place = 0 }) refl i) (cond (e i) Yes No) Neither })
           )
 
-      pub test-long : {r : TestAnswer} {n : ℕ} → n ≡ p .answer .distance → ¬ (length ws ≡ n) → r ≡ record { answer = b; says = No } → r ≡ testPair house t a d ws
+      pub test-long : {r : TestAnswer} {n : ℕ} → n ≡ p .answer .distance → ¬ (length ws ≡ n) → r ≡ record { answer = bare (record { number = 0; place = 0 }); says = No } → r ≡ testPair house t a d ws
       unfolding passesOf
       test-long h n e =
           says false (ap (λ (c : Bool). c && chooses (farOf house t) (switches t) (mask house t a d) (2 ^ home house t a) ws) (ne-eqb (length ws) (distance house t a d) (λ k. n (k ∙ sym (h ∙ hops z))))) e
 
       pub test-said : {r : TestAnswer} {c : Bool} {n : ℕ} → n ≡ p .answer .distance → length ws ≡ n → c ≡ chooses (farOf house t) (switches t) (λ s. getD (p .masks) s 0) (1 * 2 ^ p .home % 2 ^ 64) ws
-          → r ≡ record { answer = b; says = cond c Yes No } → r ≡ testPair house t a d ws
+          → r ≡ record { answer = bare (record { number = 0; place = 0 }); says = cond c Yes No } → r ≡ testPair house t a d ws
       unfolding passesOf code
       test-said {c = c} h l f e =
           says c

@@ -1,4 +1,4 @@
--- What is kept of a search, and told again: a search that is not over its budget finds the same for every budget that is no less than its
+-- What is kept of a search, and recalled: a search that is not over its budget finds the same for every budget that is no less than its
 -- tries, and is over every smaller one. Assumes nothing.
 use Prim.Native.Nat.{ℕ, _-_}
 use native.Mathlib.Omega.{arith}
@@ -39,10 +39,10 @@ module _ (far : ℕ → ℕ → Far) (size : ℕ) (mask : ℕ → ℕ) where
         at o false q = q
 
     -- what was found just now
-    pub told-found : (f : Found) → f ≡ foundOf far size mask m n room → (k : Kept) → k ≡ record { set = m; found = f }
+    pub recalled-found : (f : Found) → f ≡ foundOf far size mask m n room → (k : Kept) → k ≡ record { set = m; found = f }
         → (r : Found) → r ≡ cond (ltb room (k .found .tries)) beyondFound (k .found) → r ≡ foundOf far size mask m n room
     unfolding foundOf found F
-    told-found f e k q r p =
+    recalled-found f e k q r p =
         p ∙ ap (λ (x : Kept). cond (ltb room (x .found .tries)) beyondFound (x .found)) q ∙ ap (λ (x : Found). cond (ltb room (x .tries)) beyondFound x) e
         ∙ at (ltb room (tries far size mask (n - 1) m)) refl
       where
@@ -55,10 +55,10 @@ module _ (far : ℕ → ℕ → Far) (size : ℕ) (mask : ℕ → ℕ) where
         at false i = ap (λ (b : Bool). cond b beyondFound (G false)) i
 
     -- what was found before
-    pub told-kept : (k : Kept) → Recalls far size mask n k → (k .set ≡ m) × (k .found .over ≡ false)
+    pub recalled-kept : (k : Kept) → Recalls far size mask n k → (k .set ≡ m) × (k .found .over ≡ false)
         → (j : Kept) → j ≡ k → (r : Found) → r ≡ cond (ltb room (j .found .tries)) beyondFound (j .found) → r ≡ foundOf far size mask m n room
     unfolding foundOf found F
-    told-kept k h s j q r p =
+    recalled-kept k h s j q r p =
         p ∙ ap (λ (x : Kept). cond (ltb room (x .found .tries)) beyondFound (x .found)) q ∙ ap (λ (x : Found). cond (ltb room (x .tries)) beyondFound x) same
       where
         same : k .found ≡ F

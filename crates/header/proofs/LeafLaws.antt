@@ -15,8 +15,8 @@ use lib.Bits.{bitOr}
 use lib.Pow.{pow-mono}
 use Rattle.rules.specs.Sets.{has, all}
 use Rattle.rules.specs.Net.{Far, switch, Wired}
-use Rattle.rules.specs.Tries.{common, reach}
-use Rattle.rules.proofs.SetLaws.{T-if, T-or, or-l, or-r, T-true, true-T, same-T, same, lt-cases, all-at, all-yes, in-setOf, has-small, has-nothing, has-or, has-single}
+use Rattle.rules.specs.Tries.{common, reach, reaches}
+use Rattle.rules.proofs.SetLaws.{T-if, T-or, or-l, or-r, T-true, true-T, same-T, same, lt-cases, all-at, all-yes, in-setOf, setOf-lt, has-small, has-nothing, has-or, has-single}
 use Rattle.rules.proofs.Lists.{getD-tabulate}
 use Rattle.rules.proofs.Search.{in-reach}
 use Rattle.header.specs.Found.{singles, joined}
@@ -81,6 +81,10 @@ in-joined sets w (suc k) t = at (has k w) refl (in-joined sets w k t)
 pub singles-at : (far : ℕ → ℕ → Far) (size m c p : ℕ) → p < 8 → getD (singles far size m c) p 0 ≡ cond (has p c) (reach far size m (2 ^ p)) 0
 unfolding singles
 singles-at far size m c p l = getD-tabulate 8 (λ p. cond (has p c) (reach far size m (2 ^ p)) 0) p 0 l
+
+pub reach-lt : (far : ℕ → ℕ → Far) (size m w : ℕ) → reach far size m w < 2 ^ size
+unfolding reach
+reach-lt far size m w = setOf-lt size (reaches far size m (λ _. w))
 
 module _ (far : ℕ → ℕ → Far) (size : ℕ) (wired : Wired far size) where
   pub port-lt : {s p t : ℕ} → far s p ≡ switch t → p < 8

@@ -22,12 +22,12 @@ use Rattle.rules.specs.RunTable.{attached, home}
 use Rattle.rules.specs.RunPair.{distance, mask, lookApart, look7}
 use Rattle.ways.specs.Pairs.{lookLong, pairJudgement, pairOf}
 use Rattle.rules.proofs.SetLaws.{T-and}
-use Rattle.rules.proofs.Says.{first-zero, answered-number, answered-zero, accepted-true}
+use Rattle.rules.proofs.Says.{first-zero, answered-zero, accepted-true}
 use Rattle.rules.proofs.Ways.{never-zero}
 use Rattle.rules.proofs.Layers.{dist-cases, unreachable-is}
 use Rattle.rules.proofs.Tables.{farOf-wired}
 use Rattle.rules.proofs.Homes.{in-attached, home-is, port-of}
-use Rattle.ways.proofs.PairLaws.{five}
+use Rattle.ways.proofs.PairLaws.{five, pair-number}
 use Rattle.header.specs.Found.{Stages, Searches}
 
 -- a row that gives none
@@ -54,10 +54,6 @@ pub record Opened (t : List ℕ) (a d : ℕ) (p : Pair) : Type 0 where
   pub judged : pairJudgement house t a d ≡ record { number = 0; place = 0 }
 
 module _ (t : List ℕ) (a d : ℕ) {p : Pair} (is : p ≡ pairOf house t a d) where
-  pub pair-number : p .answer .number ≡ pairJudgement house t a d .number
-  unfolding pairOf
-  pair-number = ap (λ (x : Pair). x .answer .number) is ∙ answered-number (pairJudgement house t a d) (distance house t a d) 0 0
-
   pub opened : p .answer .number ≡ 0 → Opened t a d p
   unfolding pairOf pairJudgement distance
   opened k = record {
@@ -75,7 +71,7 @@ module _ (t : List ℕ) (a d : ℕ) {p : Pair} (is : p ≡ pairOf house t a d) w
       j = pairJudgement house t a d
 
       n : j .number ≡ 0
-      n = sym pair-number ∙ k
+      n = sym (pair-number house t a d is) ∙ k
 
       z : j ≡ record { number = 0; place = 0 }
       z = first-zero (lookLong house t a d ∷ lookApart house t a d (look7 house t a d ∷ [])) (five house t a d) n

@@ -14,19 +14,14 @@ use lib.Bits.{bitAnd}
 use Rattle.rules.specs.Sets.{within}
 use Rattle.rules.specs.Net.{Far}
 use Rattle.rules.specs.Table.{house, switches, farOf}
-use Rattle.rules.specs.Tries.{common, choice, chooses, reach, reaches}
-use Rattle.rules.proofs.SetLaws.{setOf-lt}
+use Rattle.rules.specs.Tries.{common, choice, chooses, reach}
 use Rattle.rules.proofs.Tables.{farOf-wired}
 use Rattle.header.specs.Found.{Stages, singles, joined}
-use Rattle.header.proofs.LeafLaws.{common-size, joined-reach}
+use Rattle.header.proofs.LeafLaws.{reach-lt, common-size, joined-reach}
 
-pub reach-lt : (far : ℕ → ℕ → Far) (size m w : ℕ) → reach far size m w < 2 ^ size
-unfolding reach
-reach-lt far size m w = setOf-lt size (reaches far size m (λ _. w))
-
-choice-in : (w c : ℕ) → (w ≡ 0 → ⊥) → bitAnd w c ≡ w → choice w c ≡ true
+choice-yes : (w c : ℕ) → (w ≡ 0 → ⊥) → bitAnd w c ≡ w → choice w c ≡ true
 unfolding choice within
-choice-in w c n e = ap₂ _&&_ (lt-ltb 0 w (omega arith)) (eq-eqb (bitAnd w c) w e)
+choice-yes w c n e = ap₂ _&&_ (lt-ltb 0 w (omega arith)) (eq-eqb (bitAnd w c) w e)
 
 choice-empty : (w c : ℕ) → w ≡ 0 → choice w c ≡ false
 unfolding choice
@@ -91,6 +86,6 @@ module _ (t : List ℕ) (mask : ℕ → ℕ) (start : ℕ) (header : List ℕ) w
             stages = record { short = h .stages .short; inside = subst (λ (x : ℕ). x < 2 ^ switches t) (sym reached) (reach-lt (farOf house t) (switches t) m w) };
             same = next
                 ∙ ap (λ (b : Bool). b && chooses (farOf house t) (switches t) mask (reach (farOf house t) (switches t) m w) (drop (suc i) header))
-                (ap (choice w) (sym ports-are) ∙ choice-in w ports some inside)
+                (ap (choice w) (sym ports-are) ∙ choice-yes w ports some inside)
                 ∙ ap₂ (λ (x : ℕ) (k : ℕ). chooses (farOf house t) (switches t) mask x (drop k header)) (sym reached) (sym (add-one i));
           }

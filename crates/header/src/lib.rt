@@ -16,6 +16,7 @@ ghost use Rattle.rules.specs.Sets.{within};
 ghost use Rattle.rules.specs.Table.{house, switches, farOf};
 ghost use Rattle.rules.specs.Tries.{common, chooses, reach};
 ghost use Rattle.rules.specs.Promise.{Tested, Issued};
+ghost use Rattle.rules.specs.declared.Verdict.the-variants.{No, Yes};
 ghost use Rattle.header.specs.Found.{nextChoice, Searches, Stages, Recalls, Gives, Alike, Grouped, singles, joined, foundOf, lastFound, widerFound, beyondFound};
 ghost use Rattle.header.specs.Pairs.{issuePair, issuePairMemory, testPair};
 
@@ -102,14 +103,11 @@ pub fn test_pair(table: &[u16], source: u64, target: u64, header: &[u8]) -> Test
         return said(answer, Verdict::Neither);
     }
     if header.len() != wide(answer.distance) {
-        return said(refused(0, 0), Verdict::No);
+        return verdict(false);
     }
     let masks = pair.masks;
     let home = pair.home;
-    if stages_pass(table, &masks, 1u64 << home, header) {
-        return said(refused(0, 0), Verdict::Yes);
-    }
-    said(refused(0, 0), Verdict::No)
+    verdict(stages_pass(table, &masks, 1u64 << home, header))
 }
 
 fn refused(number: u8, place: usize) -> Answer
@@ -122,6 +120,17 @@ fn refused(number: u8, place: usize) -> Answer
         count: 0,
         tries: 0,
     }
+}
+
+// Yes or no, where nothing is refused: all parts of the answer are 0.
+fn verdict(passes: bool) -> TestAnswer
+    ensures { λ r. ⌜ r ≡ record { answer = record { number = 0; place = 0; distance = 0; count = 0; tries = 0 }; says = cond passes Yes No } ⌝ }
+{
+    let answer = refused(0, 0);
+    if passes {
+        return said(answer, Verdict::Yes);
+    }
+    said(answer, Verdict::No)
 }
 
 fn said(answer: Answer, says: Verdict) -> TestAnswer
@@ -157,12 +166,12 @@ fn widest(table: &[u16], masks: &[u8; 64], set: u64, left: usize, budget: u32) -
     requires { ⌜ Searches (now table) set left ⌝ }
     ensures { λ r. ⌜ r ≡ foundOf (farOf house (now (table .entry))) (switches (now (table .entry))) (λ s. getD (now (masks .entry)) s 0) set left budget ⌝ }
 {
-    let sought = seek(table, masks, set, left, budget, nothing());
+    let sought = seek(table, masks, set, left, budget, none_kept());
     sought.found
 }
 
-// The search for it: each nonempty choice among the common ports is tried in rising order, and only a strictly wider header replaces the best.
-// Where a choice reaches the set that was searched last, what was found from it is told again.
+// The search for the widest header: each nonempty choice among the common ports is tried in rising order, and only a strictly wider header replaces the best.
+// Where a choice reaches the set that was searched last, what was found from it is recalled.
 fn seek(table: &[u16], masks: &[u8; 64], set: u64, left: usize, budget: u32, next: Kept) -> Sought
     requires { ⌜ Searches (now table) set left × Recalls (farOf house (now table)) (switches (now table)) (λ s. getD (now masks) s 0) (left - 1) next ⌝ }
     ensures { λ r. ⌜ Gives (farOf house (now (table .entry))) (switches (now (table .entry))) (λ s. getD (now (masks .entry)) s 0) set left budget r ⌝ }
@@ -172,33 +181,36 @@ fn seek(table: &[u16], masks: &[u8; 64], set: u64, left: usize, budget: u32, nex
         return keep(last(ports), next);
     }
     let sets = grouped(table, masks, set, ports);
-    let mut near = next;
-    let mut after = nothing();
+    let mut kept = next;
+    let mut below = none_kept();
     let mut best = last(0);
     let mut tries: u32 = 0;
     let mut w = next_choice(0, ports);
     while w < 256 {
         if tries == budget {
-            return keep(beyond(), near);
+            return keep(over_budget(), kept);
         }
         let word = byte(w);
         let room = budget - tries - 1;
-        let to = join(&sets, word);
-        if other(near, to) {
-            let sought = seek(table, masks, to, left - 1, room, after);
+        let reached = join(&sets, word);
+        if must_search(kept, reached) {
+            let sought = seek(table, masks, reached, left - 1, room, below);
             let found = sought.found;
-            after = sought.next;
-            near = Kept { set: to, found };
+            below = sought.next;
+            kept = Kept {
+                set: reached,
+                found,
+            };
         }
-        let rest = told(near, room);
+        let rest = recalled(kept, room);
         if rest.over {
-            return keep(beyond(), near);
+            return keep(over_budget(), kept);
         }
         tries = tries + 1 + rest.tries;
         best = wider(best, rest, word, left);
         w = next_choice(w, ports);
     }
-    keep(total(best, tries, budget), near)
+    keep(total(best, tries, budget), kept)
 }
 
 fn keep(found: Found, next: Kept) -> Sought
@@ -207,22 +219,17 @@ fn keep(found: Found, next: Kept) -> Sought
     Sought { found, next }
 }
 
-fn nothing() -> Kept
+fn none_kept() -> Kept
     ensures { λ r. ⌜ r ≡ record { set = 0; found = beyondFound } ⌝ }
 {
     Kept {
         set: 0,
-        found: Found {
-            words: [0; 8],
-            count: 0,
-            tries: 0,
-            over: true,
-        },
+        found: over_budget(),
     }
 }
 
-// Whether nothing is kept of this set.
-fn other(kept: Kept, set: u64) -> bool
+// Whether nothing is kept of the set, so that it has to be searched.
+fn must_search(kept: Kept, set: u64) -> bool
     ensures { λ r. ⌜ (r ≡ false → (kept .set ≡ set) × (kept .found .over ≡ false)) ⌝ }
 {
     if kept.set != set {
@@ -232,18 +239,18 @@ fn other(kept: Kept, set: u64) -> bool
     found.over
 }
 
-// What is kept, as it is told where the budget is `room`.
-fn told(kept: Kept, room: u32) -> Found
+// What is kept, as a search within `room` would find it.
+fn recalled(kept: Kept, room: u32) -> Found
     ensures { λ r. ⌜ r ≡ cond (ltb room (kept .found .tries)) beyondFound (kept .found) ⌝ }
 {
     let found = kept.found;
     if room < found.tries {
-        return beyond();
+        return over_budget();
     }
     found
 }
 
-// What all choices of a set gave.
+// What all choices of a set gave; over where the tries have passed the budget.
 fn total(best: Found, tries: u32, budget: u32) -> Found
     ensures { λ r. ⌜ r ≡ record { words = best .words; count = best .count; tries = tries; over = ltb budget tries } ⌝ }
 {
@@ -256,7 +263,7 @@ fn total(best: Found, tries: u32, budget: u32) -> Found
     }
 }
 
-// The last stage: all common ports. It adds no try.
+// The last stage: all common ports, and none are no header. It adds no try.
 fn last(ports: u8) -> Found
     ensures { λ r. ⌜ r ≡ lastFound ports ⌝ }
 {
@@ -270,7 +277,7 @@ fn last(ports: u8) -> Found
     }
 }
 
-fn beyond() -> Found
+fn over_budget() -> Found
     ensures { λ r. ⌜ r ≡ beyondFound ⌝ }
 {
     Found {
@@ -300,7 +307,7 @@ fn wider(kept: Found, rest: Found, w: u8, left: usize) -> Found
     }
 }
 
-// The least choice among the ports above w, which is one or 0; or 256. The ports outside carry the one that is added on to the next port.
+// The least choice among the ports above w, which is 0 or one of them; or 256. The bits outside the ports carry the added one on to the next port.
 fn next_choice(w: u16, ports: u8) -> u16
     requires { ⌜ within w ports ≡ true ⌝ }
     ensures { λ r. ⌜ r ≡ nextChoice (w + 1) ports ⌝ }

@@ -17,7 +17,7 @@ use Rattle.rules.specs.Look.{first, pick}
 use Rattle.rules.specs.RunFields.{rows, entries, look12, callJudgement}
 use Rattle.rules.proofs.Doors.{loaded-bad, loaded-good}
 use Rattle.fields.specs.Rows.{rowsOf, rowsMemory}
-use Rattle.fields.proofs.Laws.{rows-few}
+use Rattle.rules.proofs.FieldLaws.{rows-few}
 use Rattle.fields.proofs.ReadLaws.{rows-refused, rows-read, table-taken}
 
 module _ (number place n : ℕ) (parts : List (ℕ × ℕ)) where
@@ -61,7 +61,7 @@ module _ (b lent : List ℕ) (room : 512 ≤ length lent) (a d : ℕ) (out : Lis
 
   -- all rows are within the table
   pub header-within : (k : ℕ) → r .number ≡ 0 → k ≡ r .switches → length t ≡ length lent → 8 * k ≤ length t
-  header-within k h e l = let f = rows-few b in let g = rows-read b lent room r t (read .0) (read .1) h .switches in omega arith
+  header-within k h e l = let f = rows-few b 64 in let g = rows-read b lent room r t (read .0) (read .1) h .switches in omega arith
 
   pub header-issued : (k m n : ℕ) (x : Answer) (o : List ℕ) → r .number ≡ 0 → k ≡ r .switches → m ≡ 8 * k → Issued house (take m t) a d out x o → n ≡ packed x → Packs packed (λ x. Loaded house b a d out x o) n
   header-issued k m n x o h e f i p =

@@ -97,6 +97,7 @@ pub extern "C" fn reedlocket_fields(fields: &[u8], table: &mut [u16]) -> u64
     pack_fields(read(fields, table))
 }
 
+// Number and distance in 8 bits each, then count and tries in 24 each: modulo 16777216, 2 to the power 24.
 fn pack(answer: Answer) -> u64
     ensures { λ r. ⌜ r ≡ packed answer ⌝ }
 {
@@ -111,12 +112,12 @@ fn pack(answer: Answer) -> u64
 fn pack_test(answer: TestAnswer) -> u64
     ensures { λ r. ⌜ r ≡ packedTest answer ⌝ }
 {
-    let judged = answer.answer;
-    if judged.number != 0 {
-        return refusal(judged.number, judged.place);
+    let given = answer.answer;
+    if given.number != 0 {
+        return refusal(given.number, given.place);
     }
     let says = answer.says;
-    256 * verdict(says)
+    256 * verdict_number(says)
 }
 
 fn pack_walk(answer: WalkAnswer) -> u64
@@ -126,10 +127,11 @@ fn pack_walk(answer: WalkAnswer) -> u64
         return refusal(answer.number, answer.place);
     }
     let ended = answer.ending;
-    let left = 256 * (small(answer.hops) + 256 * small(answer.left));
-    256 * (ending(ended) + 256 * (half(answer.at) + 256 * left))
+    let hops_and_left = 256 * (small(answer.hops) + 256 * small(answer.left));
+    256 * (ending_number(ended) + 256 * (half(answer.at) + 256 * hops_and_left))
 }
 
+// Number and switches in 8 bits each, then the offset of the first pair in 48: modulo 2 to the power 48.
 fn pack_fields(answer: FieldAnswer) -> u64
     ensures { λ r. ⌜ r ≡ packedFields answer ⌝ }
 {
@@ -140,14 +142,14 @@ fn pack_fields(answer: FieldAnswer) -> u64
     256 * (small(answer.switches) + 256 * pairs)
 }
 
-// The number in the lowest 8 bits, and the place in the 56 above.
+// The number in the lowest 8 bits, and the place in the 56 above: modulo 2 to the power 56.
 fn refusal(number: u8, place: usize) -> u64
     ensures { λ r. ⌜ r ≡ laid ((8, number) ∷ (56, place) ∷ []) ⌝ }
 {
     small(number) + 256 * (long(place) % 72057594037927936)
 }
 
-fn verdict(says: Verdict) -> u64
+fn verdict_number(says: Verdict) -> u64
     ensures { λ r. ⌜ (r ≡ verdictNumber says) × (r < 256) ⌝ }
 {
     match says {
@@ -157,7 +159,7 @@ fn verdict(says: Verdict) -> u64
     }
 }
 
-fn ending(ended: Ending) -> u64
+fn ending_number(ended: Ending) -> u64
     ensures { λ r. ⌜ (r ≡ endingNumber ended) × (r < 256) ⌝ }
 {
     match ended {

@@ -22,7 +22,7 @@ use Rattle.rules.proofs.Packed.{Bounded, issued-bounded, issued-fits, house-nar
 use Rattle.rules.proofs.Texts.{six, line-refused, line-words, line-short, upTo, words-none, words-more, words-last}
 use Rattle.header.specs.Pairs.{issuePair, issuePairMemory}
 use Rattle.header.proofs.IssueLaws.{issue-judged, issue-refused}
-use Rattle.wiring.proofs.Found.{judge-is}
+use Rattle.wiring.proofs.Found.{judge-is, judge-number}
 use Rattle.ways.proofs.PairLaws.{bare}
 use Rattle.report.specs.Put.{Put, spacedNumber, spacedNumbers}
 use Rattle.report.proofs.PutLaws.{put-more, put-length}
@@ -30,14 +30,11 @@ use Rattle.report.proofs.PutLaws.{put-more, put-length}
 -- ---- the answer
 
 module _ (t : List ℕ) (j : Judgement) (h : Judged house t j) (a d : ℕ) (out : List ℕ) where
-  number-is : j .number ≡ judgeOf house t .number
-  number-is = ap (λ (x : Judgement). x .number) (judge-is house t h)
-
   pub answer-refused : ¬ (j .number ≡ 0) → (bare j ≡ issueAnswer house t a d out) × (out ≡ issueMemory house t a d out)
-  answer-refused n = let m = issue-refused house t a d out (λ k. n (number-is ∙ k)) in (ap bare (judge-is house t h) ∙ sym (m .0), sym (m .1))
+  answer-refused n = let m = issue-refused house t a d out (λ k. n (judge-number house t h ∙ k)) in (ap bare (judge-is house t h) ∙ sym (m .0), sym (m .1))
 
   pub answer-given : (r : Answer) (o : List ℕ) → j .number ≡ 0 → (r ≡ issuePair house t a d out) × (o ≡ issuePairMemory house t a d out) → (r ≡ issueAnswer house t a d out) × (o ≡ issueMemory house t a d out)
-  answer-given r o n e = let m = issue-judged house t a d out (sym number-is ∙ n) in (e .0 ∙ sym (m .0), e .1 ∙ sym (m .1))
+  answer-given r o n e = let m = issue-judged house t a d out (sym (judge-number house t h) ∙ n) in (e .0 ∙ sym (m .0), e .1 ∙ sym (m .1))
 
 -- ---- the words of a header
 

@@ -13,7 +13,8 @@ use Rattle.rules.specs.Text.{Reported}
 use Rattle.rules.specs.RunFields.{rows, pairs, entries}
 use Rattle.rules.specs.RunText.{textOf, goodText}
 use Rattle.rules.proofs.Texts.{text-long, text-bad, text-good, reported-met, reported-short}
-use Rattle.fields.proofs.Laws.{rows-few, fields-within}
+use Rattle.rules.proofs.FieldLaws.{rows-few}
+use Rattle.fields.proofs.Laws.{fields-within}
 use Rattle.fields.proofs.ReadLaws.{fields-refused, fields-read, table-taken}
 use Rattle.report.specs.Put.{Put, Ready}
 
@@ -46,7 +47,7 @@ module _ (b out : List ℕ) where
         -- the part of the table that is lent on
         module _ (k : ℕ) (same : k ≡ r .switches) where
           pub report-within : length t ≡ length lent → 8 * k ≤ length t
-          report-within l = let f = rows-few b in let g = fields-read b lent space r t read z .switches in omega arith
+          report-within l = let f = rows-few b 64 in let g = fields-read b lent space r t read z .switches in omega arith
 
           pub report-ready : (m : ℕ) → m ≡ 8 * k → Ready b (take m t) (r .pairs)
           report-ready m e =

@@ -30,12 +30,12 @@ pub fn report(input: &[u8], out: &mut [u8]) -> usize
         return put(b"input too long\n", out, 0);
     }
     let mut table = [0u16; 512];
-    let judged = read(input, &mut table);
-    if judged.number != 0 {
-        return put_bad_field(judged.place, out);
+    let fields = read(input, &mut table);
+    if fields.number != 0 {
+        return put_bad_field(fields.place, out);
     }
-    let n = 8 * wide(judged.switches);
-    put_lines(&table[0..n], input, judged.pairs, out)
+    let entries = 8 * wide(fields.switches);
+    put_lines(&table[0..entries], input, fields.pairs, out)
 }
 
 fn put_bad_field(place: usize, out: &mut [u8]) -> usize
@@ -53,10 +53,10 @@ fn put_lines(table: &[u16], input: &[u8], from: usize, out: &mut [u8]) -> usize
     ensures { λ r. ⌜ Put (goodText house (now (input .entry))) 0 (now (out .entry)) (now (out .exit)) r ⌝ }
 {
     let judged = judge(table);
-    let n = (input.len() - from) / 7;
+    let pairs = (input.len() - from) / 7;
     let mut at = put(b"src dst ans dist count tries words\n", out, 0);
     let mut i = 0;
-    while i < n {
+    while i < pairs {
         let ends = pair(input, from + 7 * i);
         at = put_line(table, judged, ends, out, at);
         i += 1;
@@ -72,7 +72,7 @@ fn put_line(table: &[u16], judged: Judgement, ends: Ends, out: &mut [u8], at: us
     let source = half(ends.source);
     let target = half(ends.target);
     let mut words = [0u8; 8];
-    let answer = answer(table, judged, source, target, &mut words);
+    let answer = issue_judged(table, judged, source, target, &mut words);
     let numbers = [
         source,
         target,
@@ -88,8 +88,14 @@ fn put_line(table: &[u16], judged: Judgement, ends: Ends, out: &mut [u8], at: us
     put_words(words, wide(answer.distance), out, end)
 }
 
-// Header issue, the judge's refusal first.
-fn answer(table: &[u16], judged: Judgement, source: u64, target: u64, words: &mut [u8]) -> Answer
+// Header issue in a table that has been judged so.
+fn issue_judged(
+    table: &[u16],
+    judged: Judgement,
+    source: u64,
+    target: u64,
+    words: &mut [u8],
+) -> Answer
     requires { ⌜ Judged house (now table) judged ⌝ }
     ensures { λ r. ⌜ (r ≡ issueAnswer house (now (table .entry)) source target (now (words .entry))) × (now (words .exit) ≡ issueMemory house (now (table .entry)) source target (now (words .entry))) ⌝ }
 {

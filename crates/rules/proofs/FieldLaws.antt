@@ -47,7 +47,7 @@ at-least : (n : ℕ) (f : ℕ → Bool) → least n (λ k. not (f k)) < n → T 
 at-least n f l h = T-not (f (least n (λ k. not (f k)))) (least-is n (λ k. not (f k)) .hit l) h
 
 module _ (b : List ℕ) (most : ℕ) where
-  rows-few : rows b most ≤ most
+  pub rows-few : rows b most ≤ most
   unfolding rows
   rows-few = least-is most (λ k. not (isField b 1 16 (offset b k 0))) .bound
 

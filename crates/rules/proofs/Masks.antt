@@ -7,13 +7,13 @@ use mathlib.Core.Path.{_≡_, refl, sym, ap, _∙_, subst}
 use mathlib.Core.Logic.{_↔_}
 use mathlib.Core.Bool.{Bool, true, false, cond, _&&_}
 use mathlib.Core.List.{List, [], _∷_, _++_, append-assoc}
-use lib.Dec.{T, leb, eqb→eq, le→leb}
+use lib.Dec.{T, leb, le→leb}
 use lib.ListN.{length, length-append}
 use Rattle.rules.specs.Sets.{has, setOf}
 use Rattle.rules.specs.Net.{Far, switch, node, nothing, follow, Shortest, Distance, Onward, OnWay, InMask, Wired}
 use Rattle.rules.specs.Tries.{reaches}
 use Rattle.rules.specs.Run.{arrives, near, distTo, onward, met, maskOf}
-use Rattle.rules.proofs.SetLaws.{T-and, and-i, eq-T, in-setOf, setOf-lt, has-single, has-nothing}
+use Rattle.rules.proofs.SetLaws.{T-and, and-i, eq-T, in-setOf, setOf-lt, has-single, single-one, has-nothing}
 use Rattle.rules.proofs.Ways.{follow-append, of-shortest, shortest-tail, shortest-cons, node-no-switch, nothing-no-switch}
 use Rattle.rules.proofs.Layers.{as-short, dist-is, in-onward}
 use Rattle.rules.proofs.Search.{Has, reaches-from, from-reaches}
@@ -163,14 +163,11 @@ module _ (far : ℕ → ℕ → Far) (size : ℕ) (wired : Wired far size) (d : 
 
   -- ---- masks
   module _ (a n : ℕ) (h : Distance far a d n) where
-    alone : (s : ℕ) → Has (2 ^ a) s → s ≡ a
-    alone s i = eqb→eq s a (subst T (has-single a s) i)
-
     pub self : Has (2 ^ a) a
     self = subst T (sym (has-single a a)) (eq-T a a refl)
 
     ends : Ends (2 ^ a)
-    ends s i = (h .way, subst (λ (x : ℕ). Shortest far (switch x) (node d) (h .way)) (sym (alone s i)) (h .short))
+    ends s i = (h .way, subst (λ (x : ℕ). Shortest far (switch x) (node d) (h .way)) (sym (single-one a s i)) (h .short))
 
     on : ℕ → Bool
     on s = leb (distTo far size d s) (distTo far size d a) && has s (met far size d (distTo far size d a - distTo far size d s) (2 ^ a))
@@ -179,7 +176,7 @@ module _ (far : ℕ → ℕ → Far) (size : ℕ) (wired : Wired far size) (d : 
     unfolding on
     in-on s = (
       λ i. let r = in-met k (2 ^ a) s ends .0 (T-and (leb (distTo far size d s) (distTo far size d a)) (has s (met far size d k (2 ^ a))) i .1) in
-          subst (λ (x : ℕ). Via far x d s) (alone (r .start) (r .there)) (r .via),
+          subst (λ (x : ℕ). Via far x d s) (single-one a (r .start) (r .there)) (r .via),
       λ v. let x = dist-is far size wired d (of-shortest far (v .whole)) in
           let y = dist-is far size wired d (of-shortest far (via-after far v)) in
           let z = length-append (v .before) (v .after) in

@@ -14,7 +14,7 @@ use Rattle.rules.specs.Net.{Far, switch, node, nothing, follow, Shortest
 use Rattle.rules.specs.Header.{Picks, Words, Passes, Best}
 use Rattle.rules.specs.Tries.{chooses}
 use Rattle.rules.specs.Run.{maskOf, best}
-use Rattle.rules.proofs.SetLaws.{T-and, and-i, eq-T, has-single}
+use Rattle.rules.proofs.SetLaws.{T-and, and-i, eq-T, has-single, single-one}
 use Rattle.rules.proofs.Ways.{distance-one, of-shortest}
 use Rattle.rules.proofs.Layers.{somewhere}
 use Rattle.rules.proofs.Masks.{via-onway, onway-via, via-next, in-mask, self}
@@ -55,15 +55,13 @@ module _ (far : ℕ → ℕ → Far) (size : ℕ) (wired : Wired far size) (d : 
         let r = some-picks ws (k .words) in sym (picks-length (r .0) ws (r .1)) ∙ distance-one far (of-shortest far (k .right (r .0) (r .1))) h
 
     -- ---- the set that holds the source's switch
-    one : (s : ℕ) → Has (2 ^ a) s → s ≡ a
-    one s i = eqb→eq s a (subst T (has-single a s) i)
 
     -- the test from that set is the test from that switch
     to-one : (ws : List ℕ) → PassesFrom far (Has (2 ^ a)) d ws → Passes far a d ws
     to-one ws k = record { words = k .words; right = λ ps. k .right a ps (self far size wired d a n h) }
 
     from-one : (ws : List ℕ) → Passes far a d ws → PassesFrom far (Has (2 ^ a)) d ws
-    from-one ws k = record { words = k .words; right = λ s ps i q. subst (λ (x : ℕ). Shortest far (switch x) (node d) ps) (sym (one s i)) (k .right ps q) }
+    from-one ws k = record { words = k .words; right = λ s ps i q. subst (λ (x : ℕ). Shortest far (switch x) (node d) ps) (sym (single-one a s i)) (k .right ps q) }
 
     mask : ℕ → ℕ
     mask = maskOf far size d a
@@ -73,11 +71,11 @@ module _ (far : ℕ → ℕ → Far) (size : ℕ) (wired : Wired far size) (d : 
     first = via-onway far (record { before = []; after = h .way; to = refl; whole = h .short })
 
     pub good : Each (OnWay far a d) (2 ^ a)
-    good s i = subst (OnWay far a d) (sym (one s i)) first
+    good s i = subst (OnWay far a d) (sym (single-one a s i)) first
 
     pub away : Away far d (Has (2 ^ a)) n
     unfolding Away
-    away s i = subst (λ (x : ℕ). Distance far x d n) (sym (one s i)) h
+    away s i = subst (λ (x : ℕ). Distance far x d n) (sym (single-one a s i)) h
 
     small : (s : ℕ) → OnWay far a d s → s < size
     unfolding follow

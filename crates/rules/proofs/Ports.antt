@@ -17,16 +17,16 @@ use Rattle.rules.proofs.Counts.{sum-part}
 use Rattle.rules.proofs.Widest.{ones-pos}
 
 -- p is a port of the word w with exactly n of w's ports below it
-nth : ℕ → ℕ → ℕ → Bool
+abbrev pub nth : ℕ → ℕ → ℕ → Bool
 nth w n p = has p w && eqb (count p (λ q. has q w)) n
 
 -- one computed test over all bytes: each count below the ones of a word has a port
 port-table : T (all 256 (λ w. all (ones w) (λ n. ltb (least 8 (nth w n)) 8)))
-unfolding all nth least has count sum ones onesIn
+unfolding all least has count sum ones onesIn
 port-table = tt
 
 pub port-exact : (w c : ℕ) → zero < w → w < 256 → T (has (port w c) w) × (count (port w c) (λ q. has q w) ≡ c % ones w) × (port w c < 8)
-unfolding port nth
+unfolding port
 port-exact w c h l =
     let n = c % ones w in
     let row = all-at 256 (λ w. all (ones w) (λ n. ltb (least 8 (nth w n)) 8)) port-table w l in

@@ -210,6 +210,9 @@ has-single (suc a) zero =
 has-single (suc a) (suc s) =
     let half : 2 ^ suc a / 2 ≡ 2 ^ a = omega arith in has-suc s (2 ^ suc a) ∙ ap (has s) half ∙ has-single a s ∙ sym (eqb·suc-suc s a)
 
+pub single-one : (a s : ℕ) → T (has s (2 ^ a)) → s ≡ a
+single-one a s h = eqb→eq s a (subst T (has-single a s) h)
+
 digit-and : (x y : ℕ) → x < 2 → y < 2 → eqb (min x y) 1 ≡ (eqb x 1 && eqb y 1)
 digit-and zero y h l = ap (λ (m : ℕ). eqb m 1) (zero-min y)
 digit-and (suc zero) zero h l = refl

@@ -93,6 +93,11 @@ leads-node (Node b) a h = ap Node (cc)
 leads-node Nothing a h = let q : _≡_ {A = ℕ} 0 1 = cc in absurd (omega arith)
 leads-node Bad a h = let q : _≡_ {A = ℕ} 0 1 = cc in absurd (omega arith)
 
+-- the entry of a port of a switch that there is stands in the table
+pub port-inside : (t : List ℕ) (s p : ℕ) → s < switches t → p < 8 → 8 * s + p < length t
+unfolding switches
+port-inside t s p l m = omega arith
+
 module _ (z : Sizes) (t : List ℕ) where
   -- a port of a switch that there is leads where its entry says, and any other port nowhere
   pub far-inside : (s p : ℕ) → s < switches t → p < 8 → farOf z t s p ≡ leads (kindAt z t (8 * s + p))

@@ -17,7 +17,7 @@ use Rattle.rules.specs.Net.{Far, switch, node, nothing, follow}
 use Rattle.rules.specs.Header.{Words, Passes}
 use Rattle.rules.specs.Walk.{port, ports, after, Ending·is, Ended}
 use Rattle.rules.specs.RunWalk.{Stop, arrived, cross, walkFrom}
-use Rattle.rules.proofs.Ways.{from-node, node-no-switch}
+use Rattle.rules.proofs.Ways.{nothing-stays, from-node, node-no-switch}
 use Rattle.rules.proofs.Ports.{ports-pick, ports-length}
 
 words-pos : (ws : List ℕ) → Words ws → (i : ℕ) → i < length ws → zero < getD ws i 0
@@ -48,16 +48,9 @@ unfolding arrived
 arrived-some [] l = absurd (omega arith)
 arrived-some (w ∷ ws) l = refl
 
--- ---- following, past a processor or a port with no link
+-- ---- one hop more
 
 module _ (far : ℕ → ℕ → Far) where
-  nothing-stays : (qs : List ℕ) → follow far qs nothing ≡ nothing
-  unfolding follow
-  nothing-stays [] = refl
-  nothing-stays (q ∷ qs) = refl
-
-  -- ---- one hop more
-
   -- where the walk goes on after its first hop
   after-suc : (w c s i : ℕ) (ws cs : List ℕ) (x : Far) → far s (port w c) ≡ x → after far (w ∷ ws) (c ∷ cs) s (suc i) ≡ follow far (take i (ports ws cs)) x
   unfolding follow ports
@@ -236,7 +229,7 @@ module _ (far : ℕ → ℕ → Far) where
     unfolding cross
     only-hop e p i l k r (switch t) f = walk-hop w c s h ws cs (switch t) (k .before 0 (omega arith)) f ∙ r t (ended-back w c s t ws cs f e p i l k) ∙ stop-same refl refl (omega arith) refl
     only-hop e p i l k r (node n) f = walk-hop w c s h ws cs (node n) (k .before 0 (omega arith)) f ∙ only-node n f e p i l (k .so) (k .words)
-    only-hop e p i l k r nothing f = absurd (ended-there (w ∷ ws) (c ∷ cs) s e p (suc i) l (k .so) (after-suc w c s i ws cs nothing f ∙ nothing-stays (take i (ports ws cs))))
+    only-hop e p i l k r nothing f = absurd (ended-there (w ∷ ws) (c ∷ cs) s e p (suc i) l (k .so) (after-suc w c s i ws cs nothing f ∙ nothing-stays far (take i (ports ws cs))))
 
   walk-only : (ws cs : List ℕ) (s h : ℕ) → length ws ≤ length cs → (e : Ending) (p i l : ℕ) → Ended far ws cs s e p i l → walkFrom far ws cs s h ≡ stop e p (h + i) l
   unfolding walkFrom stop

@@ -10,15 +10,17 @@ use lib.ListN.{length}
 use Rattle.rules.specs.Net.{Far, switch, node, nothing, follow, Shortest, Distance, Onward}
 
 module _ (far : ℕ → ℕ → Far) where
+  -- nothing leads on
+  pub nothing-stays : (qs : List ℕ) → follow far qs nothing ≡ nothing
+  unfolding follow
+  nothing-stays [] = refl
+  nothing-stays (q ∷ qs) = refl
+
   pub follow-append : (ps qs : List ℕ) (x : Far) → follow far (ps ++ qs) x ≡ follow far qs (follow far ps x)
   unfolding follow
   follow-append [] qs x = refl
   follow-append (p ∷ ps) qs (switch s) = follow-append ps qs (far s p)
-  follow-append (p ∷ ps) qs (node n) = stuck qs
-    where
-      stuck : (qs : List ℕ) → nothing ≡ follow far qs nothing
-      stuck [] = refl
-      stuck (q ∷ qs) = refl
+  follow-append (p ∷ ps) qs (node n) = sym (nothing-stays qs)
   follow-append (p ∷ ps) [] nothing = refl
   follow-append (p ∷ ps) (q ∷ qs) nothing = refl
 

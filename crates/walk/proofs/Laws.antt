@@ -22,7 +22,8 @@ use Rattle.rules.specs.Table.{house, kind, leads, switches, farOf}
 use Rattle.rules.specs.Walk.{port}
 use Rattle.rules.specs.RunWalk.{Stop, arrived, cross, walkFrom}
 use Rattle.wiring.proofs.Laws.{kind-at}
-use Rattle.rules.proofs.Tables.{far-inside, farOf-wired}
+use Rattle.rules.proofs.Ports.{nth}
+use Rattle.rules.proofs.Tables.{port-inside, far-inside, farOf-wired}
 use Rattle.rules.proofs.SetLaws.{T-and, and-i, eq-T}
 use Rattle.wiring.proofs.Laws.{Passed, passed-start, passed-one, passed-hit, passed-all}
 use Rattle.walk.specs.declared.Step.{Step}
@@ -30,10 +31,6 @@ use Rattle.walk.specs.declared.Step.the-variants.{Moved, Arrived, Off, E
 use Rattle.walk.specs.Step.{crossing, stepOf, stopped}
 
 -- ---- the port of a choice
-
--- port p is permitted by the word w, with exactly k permitted ports below it
-abbrev nth : ℕ → ℕ → ℕ → Bool
-nth w k p = has p w && eqb (count p (λ q. has q w)) k
 
 -- no port below p is the one with k below it, and `below` of them are permitted
 pub record Counted (w k below p : ℕ) : Type 0 where
@@ -87,10 +84,6 @@ module _ (w k : ℕ) where
     counted-all l = passed-all (h .passed) l ∙ ap (λ (n : ℕ). least 8 (nth w n)) e
 
 -- ---- one hop
-
-pub port-inside : (t : List ℕ) (s p : ℕ) → s < switches t → p < 8 → 8 * s + p < length t
-unfolding switches
-port-inside t s p l m = omega arith
 
 module _ (t : List ℕ) (s w c : ℕ) where
   pub step-empty : w ≡ 0 → Empty ≡ stepOf (farOf house t) s w c

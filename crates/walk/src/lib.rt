@@ -123,12 +123,12 @@ fn chosen(word: u8, choice: u8) -> usize
     requires { ⌜ zero < word ⌝ }
     ensures { λ r. ⌜ r ≡ port word choice ⌝ }
 {
-    let k = long(choice) % u8::count_ones(word);
+    let wanted = long(choice) % u8::count_ones(word);
     let mut below: u32 = 0;
     let mut p = 0;
     while p < 8 {
         if (word >> p) % 2 == 1 {
-            if below == k {
+            if below == wanted {
                 return p;
             }
             below += 1;

@@ -21,7 +21,7 @@ use Rattle.rules.specs.Promise.{Judged, Measured, Masked}
 use Rattle.ways.specs.declared.Pair.{Pair}
 use Rattle.rules.proofs.Kept.{judged-met, measured-met, masked-met}
 use Rattle.rules.proofs.Lists.{take-tabulate}
-use Rattle.wiring.proofs.Found.{judge-refuses, judge-accepts, judge-is, judge-sound}
+use Rattle.wiring.proofs.Found.{judge-refuses, judge-accepts, judge-is, judge-number, judge-sound}
 
 -- the answer of a refusal
 abbrev pub bare : Judgement → Answer
@@ -87,21 +87,23 @@ module _ (z : Sizes) (t : List ℕ) (a d : ℕ) where
     mask-made e =
         (ap (λ (x : Judgement). answered x (distance z t a d) 0 0) e ∙ answered-accepted (record { number = 0; place = 0 }) (distance z t a d) 0 0 refl, kept-accepted (maskJudgement z t a d out) _ out (ap (λ (x : Judgement). x .number) e))
 
+  -- a pair says the number of its refusals
+  pub pair-number : {p : Pair} → p ≡ pairOf z t a d → p .answer .number ≡ pairJudgement z t a d .number
+  unfolding pairOf
+  pair-number is = ap (λ (x : Pair). x .answer .number) is ∙ answered-number (pairJudgement z t a d) (distance z t a d) 0 0
+
   -- ---- the ways out of `distance`
 
   module _ {j : Judgement} (h : Judged z t j) where
-    judge-number : j .number ≡ judgeOf z t .number
-    judge-number = ap (λ (x : Judgement). x .number) (judge-is z t h)
-
     refused-as : {r : Answer} → r ≡ bare j → r ≡ bare (judgeOf z t)
     refused-as e = e ∙ ap bare (judge-is z t h)
 
     pub distance-refused : {r : Answer} → ¬ (j .number ≡ 0) → r ≡ bare j → Measured z t a d r
     distance-refused n e =
-        subst (Measured z t a d) (sym (refused-as e ∙ sym (measure-refused (λ m. n (judge-number ∙ m))))) (measured-met z t a d)
+        subst (Measured z t a d) (sym (refused-as e ∙ sym (measure-refused (λ m. n (judge-number z t h ∙ m))))) (measured-met z t a d)
 
     pub distance-given : {r : Answer} → j .number ≡ 0 → r ≡ measurePair z t a d → Measured z t a d r
-    distance-given n e = subst (Measured z t a d) (sym (e ∙ sym (measure-judged (sym judge-number ∙ n)))) (measured-met z t a d)
+    distance-given n e = subst (Measured z t a d) (sym (e ∙ sym (measure-judged (sym (judge-number z t h) ∙ n)))) (measured-met z t a d)
 
     pub judged-few : j .number ≡ 0 → switches t ≤ z .most
     judged-few n = sound-length z t (judge-sound z t h n) .1
@@ -113,27 +115,23 @@ module _ (z : Sizes) (t : List ℕ) (a d : ℕ) where
 
       pub masks-refused : {r : Answer} → ¬ (j .number ≡ 0) → r ≡ bare j → Masked z t a d out r out
       masks-refused n e =
-          let m = mask-refused out (judgeOf z t) (mask-judge out (λ k. n (judge-number ∙ k))) (λ k. n (judge-number ∙ k)) in
+          let m = mask-refused out (judgeOf z t) (mask-judge out (λ k. n (judge-number z t h ∙ k))) (λ k. n (judge-number z t h ∙ k)) in
           masked (refused-as e ∙ sym (m .0)) (sym (m .1))
 
       module _ (n : j .number ≡ 0) {p : Pair} (is : p ≡ pairOf z t a d) where
         zero-judge : judgeOf z t .number ≡ 0
-        zero-judge = sym judge-number ∙ n
-
-        pair-number : p .answer .number ≡ pairJudgement z t a d .number
-        unfolding pairOf
-        pair-number = ap (λ (x : Pair). x .answer .number) is ∙ answered-number (pairJudgement z t a d) (distance z t a d) 0 0
+        zero-judge = sym (judge-number z t h) ∙ n
 
         pub masks-none : ¬ (p .answer .number ≡ 0) → Masked z t a d out (p .answer) out
         unfolding pairOf
         masks-none k =
-            let l : ¬ (pairJudgement z t a d .number ≡ 0) = λ m. k (pair-number ∙ m) in
+            let l : ¬ (pairJudgement z t a d .number ≡ 0) = λ m. k (pair-number is ∙ m) in
             let m = mask-refused out (pairJudgement z t a d) (mask-pair out zero-judge l) l in
             masked (ap (λ (x : Pair). x .answer) is ∙ answered-refused (pairJudgement z t a d) (distance z t a d) 0 0 l ∙ sym (m .0)) (sym (m .1))
 
         module _ (k : p .answer .number ≡ 0) where
           zero-pair : pairJudgement z t a d .number ≡ 0
-          zero-pair = sym pair-number ∙ k
+          zero-pair = sym (pair-number is) ∙ k
 
           zero-place : pairJudgement z t a d .place ≡ 0
           unfolding pairJudgement

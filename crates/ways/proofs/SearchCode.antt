@@ -18,7 +18,7 @@ use Rattle.rules.specs.Net.{switch}
 use Rattle.rules.specs.Table.{house, noLink, kind, kindAt, leads, switches, farOf}
 use Rattle.rules.specs.RunTable.{isEntryOf, isNode, stands}
 use Rattle.rules.proofs.SetLaws.{any-yes, any-some, T-true, true-T, same-T}
-use Rattle.rules.proofs.Tables.{kind-switch, leads-switch, far-inside, farOf-wired}
+use Rattle.rules.proofs.Tables.{port-inside, kind-switch, leads-switch, far-inside, farOf-wired}
 use Rattle.wiring.proofs.Laws.{getD-inside, Read, kind-link, Passed, stands-told, stands-not, stands-other}
 use Rattle.ways.specs.Search.{Queue, Searched}
 use Rattle.ways.specs.Inner.{Expands, Expanded}
@@ -34,13 +34,9 @@ leads-entry a Nothing = refl
 leads-entry a Bad = refl
 
 module _ (t : List ℕ) (s p : ℕ) (inside : s < switches t) (port : p < 8) where
-  pub port-inside : 8 * s + p < length t
-  unfolding switches
-  port-inside = omega arith
-
   port-read : farOf house t s p ≡ leads (kind house (length t / 8) (getD t (8 * s + p) 0))
   unfolding kindAt switches
-  port-read = far-inside house t s p inside port ∙ ap (λ (x : ℕ). leads (kind house (length t / 8) x)) (getD-inside t (8 * s + p) noLink 0 port-inside)
+  port-read = far-inside house t s p inside port ∙ ap (λ (x : ℕ). leads (kind house (length t / 8) x)) (getD-inside t (8 * s + p) noLink 0 (port-inside t s p inside port))
 
   pub port-link : {v : ℕ} → v ≡ getD t (8 * s + p) 0 → v < length t / 8 → farOf house t s p ≡ switch v
   unfolding leads
@@ -59,13 +55,13 @@ module _ (t : List ℕ) (s p : ℕ) (inside : s < switches t) (port : p < 8) whe
 
   module _ (target : ℕ) {e : Entry} (r : Read t (8 * s + p) e) where
     pub port-told : {a : ℕ} → e ≡ Node a → a ≡ target → T (isNode target (farOf house t s p))
-    port-told q k = subst T (sym (port-node target)) (stands-told t (8 * s + p) port-inside target r q k)
+    port-told q k = subst T (sym (port-node target)) (stands-told t (8 * s + p) (port-inside t s p inside port) target r q k)
 
     pub port-not : {a : ℕ} → e ≡ Node a → (a ≡ target → ⊥) → T (isNode target (farOf house t s p)) → ⊥
-    port-not q k h = stands-not t (8 * s + p) port-inside target r q k (subst T (port-node target) h)
+    port-not q k h = stands-not t (8 * s + p) (port-inside t s p inside port) target r q k (subst T (port-node target) h)
 
     pub port-other : OneOf (0 ∷ 2 ∷ 3 ∷ []) (tagOf the-type e) → T (isNode target (farOf house t s p)) → ⊥
-    port-other o h = stands-other t (8 * s + p) port-inside target r o (subst T (port-node target) h)
+    port-other o h = stands-other t (8 * s + p) (port-inside t s p inside port) target r o (subst T (port-node target) h)
 
 -- ---- a processor at a switch
 

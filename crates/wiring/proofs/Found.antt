@@ -42,6 +42,9 @@ module _ (z : Sizes) (t : List ℕ) where
   pub judge-is : {r : Judgement} → Judged z t r → r ≡ judgeOf z t
   judge-is {r} h = judged-only z t r (judgeOf z t) h (judged-met z t)
 
+  pub judge-number : {r : Judgement} → Judged z t r → r .number ≡ judgeOf z t .number
+  judge-number h = ap (λ (x : Judgement). x .number) (judge-is h)
+
 -- ---- the index found
 
 module _ (z : Sizes) (t : List ℕ) (a : ℕ) where

@@ -19,20 +19,20 @@ loop-holds c = filling-none _ _ _
 mul-loop : tie.Need-mul-loop Inv-loop μ-loop
 mul-loop c = search needs
 
-mul-word : tie.Need-mul-word Inv-loop μ-loop
-mul-word c = search needs
+mul-number-at : tie.Need-mul-number-at Inv-loop μ-loop
+mul-number-at c = search needs
 
-add-word : tie.Need-add-word Inv-loop μ-loop
-add-word c = search needs
+add-number-at : tie.Need-add-number-at Inv-loop μ-loop
+add-number-at c = search needs
 
-mul-word-2 : tie.Need-mul-word-2 Inv-loop μ-loop
-mul-word-2 c = search needs
+mul-number-at-2 : tie.Need-mul-number-at-2 Inv-loop μ-loop
+mul-number-at-2 c = search needs
 
-add-word-2 : tie.Need-add-word-2 Inv-loop μ-loop
-add-word-2 c = search needs
+add-number-at-2 : tie.Need-add-number-at-2 Inv-loop μ-loop
+add-number-at-2 c = search needs
 
-word-requires : tie.Need-word-requires Inv-loop μ-loop
-word-requires c κs = search needs
+number-at-requires : tie.Need-number-at-requires Inv-loop μ-loop
+number-at-requires c κs = search needs
 
 mul-table : tie.Need-mul-table Inv-loop μ-loop
 mul-table c = search needs
@@ -50,7 +50,7 @@ loop-again : tie.Need-loop-again Inv-loop μ-loop
 loop-again c =
     let l = c .before .before .loop in
     let s = c .before .before .before .before .before in
-    filling-more (now (s .args .bytes)) (now (s .args .table)) (s .args .switches) (l .table) (l .i) (c .word .result) (l .inv) (c .before .loop-test .taken) (s .pre .0) (c .word .ensures)
+    filling-more (now (s .args .bytes)) (now (s .args .table)) (s .args .switches) (l .table) (l .i) (c .number-at .result) (l .inv) (c .before .loop-test .taken) (s .pre .0) (c .number-at .ensures)
 
 same-length : tie.Need-same-length Inv-loop μ-loop
 same-length c = search needs
@@ -69,11 +69,11 @@ fill-spec =
     μ-loop
     loop-holds
     mul-loop
-    mul-word
-    add-word
-    mul-word-2
-    add-word-2
-    word-requires
+    mul-number-at
+    add-number-at
+    mul-number-at-2
+    add-number-at-2
+    number-at-requires
     mul-table
     slice-write-table
     add-i

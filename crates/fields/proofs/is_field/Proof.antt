@@ -25,11 +25,11 @@ shared-slice-read-if2 c = search needs
 returns-2 : tie.Need-returns-2
 returns-2 c = sym (no-field _ _ _ _ (λ f. c .if2 .taken (f .tagged)))
 
-add-word : tie.Need-add-word
-add-word c = search needs
+add-number-at : tie.Need-add-number-at
+add-number-at c = search needs
 
-word-requires : tie.Need-word-requires
-word-requires c κs = search needs
+number-at-requires : tie.Need-number-at-requires
+number-at-requires c κs = search needs
 
 wide-requires : tie.Need-wide-requires
 wide-requires c κs = search needs
@@ -37,7 +37,7 @@ wide-requires c κs = search needs
 returns-3 : tie.Need-returns-3
 returns-3 c =
     let a = c .before .before .before .before .before .before .args in
-    ap (λ (x : ℕ). eqb x (a .size)) (c .wide .ensures ∙ c .before .word .ensures)
+    ap (λ (x : ℕ). eqb x (a .size)) (c .wide .ensures ∙ c .before .number-at .ensures)
     ∙ sym (long-field (now (a .bytes)) (a .tag) (a .size) (a .at) (c .before .before .if2 .left) (omega arith))
 
 pub is-field-spec : {M : Type 1} → statement M
@@ -49,7 +49,7 @@ is-field-spec =
     returns
     shared-slice-read-if2
     returns-2
-    add-word
-    word-requires
+    add-number-at
+    number-at-requires
     wide-requires
     returns-3)

@@ -24,17 +24,17 @@ returns-2 c =
     let s = c .before .before .before .args in
     simp (lt-leb (s .at + 7) (length (now (s .bytes))) (omega arith))
 
-add-word : tie.Need-add-word
-add-word c = search needs
+add-number-at : tie.Need-add-number-at
+add-number-at c = search needs
 
-word-requires : tie.Need-word-requires
-word-requires c κs = search needs
+number-at-requires : tie.Need-number-at-requires
+number-at-requires c κs = search needs
 
-add-word-2 : tie.Need-add-word-2
-add-word-2 c = search needs
+add-number-at-2 : tie.Need-add-number-at-2
+add-number-at-2 c = search needs
 
-word-requires-2 : tie.Need-word-requires-2
-word-requires-2 c κs = search needs
+number-at-requires-2 : tie.Need-number-at-requires-2
+number-at-requires-2 c κs = search needs
 
 returns-3 : tie.Need-returns-3
 unfolding pairAt
@@ -49,8 +49,8 @@ pair-spec =
     returns
     sub-if2
     returns-2
-    add-word
-    word-requires
-    add-word-2
-    word-requires-2
+    add-number-at
+    number-at-requires
+    add-number-at-2
+    number-at-requires-2
     returns-3)

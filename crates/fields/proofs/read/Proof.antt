@@ -3,7 +3,8 @@
 use native.Mathlib.Omega.{arith}
 use denote.Ref.{now}
 use borrow.Author.Needs.{needs}
-use Rattle.fields.proofs.Laws.{rows-few, rows-within, fields-within, read-bad, read-short, read-whole}
+use Rattle.rules.proofs.FieldLaws.{rows-few}
+use Rattle.fields.proofs.Laws.{rows-within, fields-within, read-bad, read-short, read-whole}
 use Rattle.fields.proofs.read.Statement.{statement}
 use Rattle.fields.proofs.read.Tie as tie
 
@@ -44,12 +45,12 @@ fill-requires : tie.Need-fill-requires
 fill-requires c κs =
     let n = c .before .before .before .before in
     let b = now (n .before .before .before .args .bytes) in
-    omega (arith, rows-few b, rows-within b, n .count-rows .ensures)
+    omega (arith, rows-few b 64, rows-within b, n .count-rows .ensures)
 
 narrow-requires : tie.Need-narrow-requires
 narrow-requires c κs =
     let n = c .before .before .before .before .before .before .before in
-    omega (arith, rows-few (now (n .before .before .before .args .bytes)), n .count-rows .ensures)
+    omega (arith, rows-few (now (n .before .before .before .args .bytes)) 64, n .count-rows .ensures)
 
 mul-t6 : tie.Need-mul-t6
 mul-t6 c = search needs

@@ -2,7 +2,8 @@
 use native.Mathlib.Omega.{arith}
 use denote.Ref.{now}
 use borrow.Author.Needs.{needs}
-use Rattle.fields.proofs.Laws.{rows-few, rows-within, rows-bad, rows-short, rows-whole}
+use Rattle.rules.proofs.FieldLaws.{rows-few}
+use Rattle.fields.proofs.Laws.{rows-within, rows-bad, rows-short, rows-whole}
 use Rattle.fields.proofs.read_rows.Statement.{statement}
 use Rattle.fields.proofs.read_rows.Tie as tie
 
@@ -34,12 +35,12 @@ fill-requires : tie.Need-fill-requires
 fill-requires c κs =
     let n = c .before .before .before in
     let b = now (n .before .before .before .args .bytes) in
-    omega (arith, rows-few b, rows-within b, n .count-rows .ensures)
+    omega (arith, rows-few b 64, rows-within b, n .count-rows .ensures)
 
 narrow-requires : tie.Need-narrow-requires
 narrow-requires c κs =
     let n = c .before .before .before .before .before .before in
-    omega (arith, rows-few (now (n .before .before .before .args .bytes)), n .count-rows .ensures)
+    omega (arith, rows-few (now (n .before .before .before .args .bytes)) 64, n .count-rows .ensures)
 
 same-length : tie.Need-same-length
 same-length c = search needs

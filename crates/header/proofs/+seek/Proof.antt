@@ -12,13 +12,13 @@ use borrow.Fn.PlainCycle.{Measures, is, falls, and}
 use Rattle.header.specs.declared.Found.{Found}
 use Rattle.header.specs.Found.{widerFound, nextChoice}
 use Rattle.header.proofs.ChoiceLaws.{none-part, choice-part}
-use Rattle.header.proofs.KeptLaws.{nothing-kept, gives, found-kept, told-found, told-kept}
+use Rattle.header.proofs.KeptLaws.{nothing-kept, gives, found-kept, recalled-found, recalled-kept}
 use Rattle.header.proofs.WidestLaws.{next-is}
 use Rattle.header.proofs.Searching.{Known, Search, Memory, held-same, Finds, last-stage, start, ended, full, deeper, fits, beyond, taken}
 use Rattle.header.proofs.seek.Reads as seek
 use Rattle.header.proofs.seek.Kinds as seek-kinds
 use Rattle.header.proofs.+seek.Lts-seek as seek-lts
-use Rattle.header.proofs.beyond.Reads as beyond-reads
+use Rattle.header.proofs.over_budget.Reads as over-budget-reads
 use Rattle.header.proofs.byte.Reads as byte-reads
 use Rattle.header.proofs.common_of.Reads as common-of-reads
 use Rattle.header.proofs.grouped.Reads as grouped-reads
@@ -26,9 +26,9 @@ use Rattle.header.proofs.join.Reads as join-reads
 use Rattle.header.proofs.keep.Reads as keep-reads
 use Rattle.header.proofs.last.Reads as last-reads
 use Rattle.header.proofs.next_choice.Reads as next-choice-reads
-use Rattle.header.proofs.nothing.Reads as nothing-reads
-use Rattle.header.proofs.other.Reads as other-reads
-use Rattle.header.proofs.told.Reads as told-reads
+use Rattle.header.proofs.none_kept.Reads as none-kept-reads
+use Rattle.header.proofs.must_search.Reads as must-search-reads
+use Rattle.header.proofs.recalled.Reads as recalled-reads
 use Rattle.header.proofs.total.Reads as total-reads
 use Rattle.header.proofs.wider.Reads as wider-reads
 use Rattle.header.proofs.+seek.{statement}
@@ -46,13 +46,13 @@ seek-below t = and 2 seek-kinds.ps (falls 2 seek-kinds.ps _<_ μ-seek t) seek.Pr
 
 -- the readings of all that it calls
 abbrev calls : ℕ → seek-lts.Claims
-calls t = (common-of-reads.Asked, common-of-reads.Learnt, last-reads.Asked, last-reads.Learnt, keep-reads.Asked, keep-reads.Learnt, grouped-reads.Asked, grouped-reads.Learnt, nothing-reads.Asked, nothing-reads.Learnt, next-choice-reads.Asked, next-choice-reads.Learnt, beyond-reads.Asked, beyond-reads.Learnt, byte-reads.Asked, byte-reads.Learnt, join-reads.Asked, join-reads.Learnt, other-reads.Asked, other-reads.Learnt, seek-below t, seek.Post, told-reads.Asked, told-reads.Learnt, wider-reads.Asked, wider-reads.Learnt, total-reads.Asked, total-reads.Learnt)
+calls t = (common-of-reads.Asked, common-of-reads.Learnt, last-reads.Asked, last-reads.Learnt, keep-reads.Asked, keep-reads.Learnt, grouped-reads.Asked, grouped-reads.Learnt, none-kept-reads.Asked, none-kept-reads.Learnt, next-choice-reads.Asked, next-choice-reads.Learnt, over-budget-reads.Asked, over-budget-reads.Learnt, byte-reads.Asked, byte-reads.Learnt, join-reads.Asked, join-reads.Learnt, must-search-reads.Asked, must-search-reads.Learnt, seek-below t, seek.Post, recalled-reads.Asked, recalled-reads.Learnt, wider-reads.Asked, wider-reads.Learnt, total-reads.Asked, total-reads.Learnt)
 
 abbrev Inv-loop : seek-lts.InvT-loop
-Inv-loop table masks set left budget ports sets near₀ after₀ best₀ tries₀ w₀ near after best tries w = Search table masks set left budget ports best tries w × Memory table masks left near after
+Inv-loop table masks set left budget ports sets kept₀ below₀ best₀ tries₀ w₀ kept below best tries w = Search table masks set left budget ports best tries w × Memory table masks left kept below
 
 abbrev μ-loop : seek-lts.MeasureT-loop
-μ-loop table masks set left budget ports sets near₀ after₀ best₀ tries₀ w₀ near after best tries w = 256 - w
+μ-loop table masks set left budget ports sets kept₀ below₀ best₀ tries₀ w₀ kept below best tries w = 256 - w
 
 -- what is known from before the loop on
 known : (t : ℕ) (c : seek-lts.At-loop (calls t) (seek-at t) seek.Post Inv-loop μ-loop)
@@ -66,28 +66,28 @@ known t c = let p = c .before .before .before .before in record {
 }
 
 -- what is told is what the search from the set reached finds, where it was searched now and where it was before
-rest-is : (t : ℕ) (c : seek-lts.After-told (calls t) (seek-at t) seek.Post Inv-loop μ-loop)
+rest-is : (t : ℕ) (c : seek-lts.After-recalled (calls t) (seek-at t) seek.Post Inv-loop μ-loop)
     → let j = c .before .before .before in
     let loop = j .before .before .before .before .before in
     let a = loop .before .before .before .before .before .before .before .before .args in
-    Finds (a .table .now) (a .masks .now) (j .join .result) (a .left - 1) (a .budget - loop .loop .tries - 1) (c .told .result)
+    Finds (a .table .now) (a .masks .now) (j .join .result) (a .left - 1) (a .budget - loop .loop .tries - 1) (c .recalled .result)
 rest-is t c =
     let o = c .before .before in
     let u = o .before .before .before .before .before .before .loop in
     let k = c .before .if3 in
-    ⊎-elim (λ w. told-found _ _ _ _ _ _ _ (w .1 .ensures .is) (k .near) (w .4) (c .told .result) (c .told .ensures))
-    (λ w. told-kept _ _ _ _ _ _ (u .near) (u .inv .1 .0) (o .other .ensures (w .0 .left)) (k .near) (w .1) (c .told .result) (c .told .ensures))
+    ⊎-elim (λ w. recalled-found _ _ _ _ _ _ _ (w .1 .ensures .is) (k .kept) (w .4) (c .recalled .result) (c .recalled .ensures))
+    (λ w. recalled-kept _ _ _ _ _ _ (u .kept) (u .inv .1 .0) (o .must-search .ensures (w .0 .left)) (k .kept) (w .1) (c .recalled .result) (c .recalled .ensures))
     (k .came)
 
 -- and it is kept
 kept-on : (t : ℕ) (c : seek-lts.Joined3 (calls t) (seek-at t) seek.Post Inv-loop μ-loop)
-    → let a = c .before .before .before .before .before .before .before .before .before .before .before .before .before .before .before .args in Memory (a .table .now) (a .masks .now) (a .left) (c .if3 .near) (c .if3 .after)
+    → let a = c .before .before .before .before .before .before .before .before .before .before .before .before .before .before .before .args in Memory (a .table .now) (a .masks .now) (a .left) (c .if3 .kept) (c .if3 .below)
 kept-on t c =
     let a = c .before .before .before .before .before .before .before .before .before .before .before .before .before .before .before .args in
     let u = c .before .before .before .before .before .before .before .loop in
     let k = c .if3 in
     let held = held-same (a .table .now) (a .masks .now) in
-    ⊎-elim (λ w. (found-kept _ _ _ _ _ _ _ (w .1 .ensures .is) (k .near) (w .4), held _ _ _ (w .5) (w .1 .ensures .keeps)))
+    ⊎-elim (λ w. (found-kept _ _ _ _ _ _ _ (w .1 .ensures .is) (k .kept) (w .4), held _ _ _ (w .5) (w .1 .ensures .keeps)))
     (λ w. (held _ _ _ (w .1) (u .inv .1 .0), held _ _ _ (w .2) (u .inv .1 .1))) (k .came)
 
 returns : (t : ℕ) → seek-lts.Need-returns (calls t) (seek-at t) seek.Post Inv-loop μ-loop
@@ -106,7 +106,7 @@ loop-holds t c =
     let a = s .args in
     let h = c .before .last2 in
     let w = c .next-choice in
-    let n = c .before .before .nothing in (
+    let n = c .before .before .none-kept in (
       start (a .table .now) (a .masks .now) (a .set) (a .left) (a .budget) (c .before .before .before .before .before .common-of .result) (h .result) (w .result) (h .ensures) (w .ensures),
       (s .pre .1 .1, nothing-kept _ _ _ _ (n .result) (n .ensures)),
     )
@@ -115,8 +115,8 @@ returns-2 : (t : ℕ) → seek-lts.Need-returns-2 (calls t) (seek-at t) seek.Pos
 returns-2 t c =
     let turn = c .before .before .before in
     let u = turn .before .loop in
-    let g = c .before .beyond in
-    gives _ _ _ (g .result) (u .near)
+    let g = c .before .over-budget in
+    gives _ _ _ (g .result) (u .kept)
     (full _ _ _ _ _ _ _ (known t (turn .before)) (u .best) (u .tries) (u .w) (u .inv .0) (turn .loop-test .taken) (c .before .before .if2 .taken) (g .result) (g .ensures))
     (u .inv .1 .0) (c .keep2 .result) (c .keep2 .ensures)
 
@@ -138,9 +138,9 @@ returns-3 t c =
     let turn = j .before .before .before .before in
     let u = turn .before .loop in
     let r = c .before .before .before in
-    let g = c .before .beyond2 in
-    gives _ _ _ (g .result) (r .before .if3 .near)
-    (beyond _ _ _ _ _ _ _ (known t (turn .before)) (u .w) (b .result) (j .join .result) (u .inv .0 .chosen (turn .loop-test .taken)) (b .ensures) (j .join .ensures) (u .tries) (r .told .result) (rest-is t r)
+    let g = c .before .over-budget2 in
+    gives _ _ _ (g .result) (r .before .if3 .kept)
+    (beyond _ _ _ _ _ _ _ (known t (turn .before)) (u .w) (b .result) (j .join .result) (u .inv .0 .chosen (turn .loop-test .taken)) (b .ensures) (j .join .ensures) (u .tries) (r .recalled .result) (rest-is t r)
     (u .best) (u .inv .0) (turn .loop-test .taken) (j .before .before .before .if2 .left) (c .before .before .if4 .taken) (g .result) (g .ensures))
     (kept-on t (r .before) .0) (c .keep3 .result) (c .keep3 .ensures)
 
@@ -151,7 +151,7 @@ add-tries t c =
 
 -- the turn after a rest that is not over
 took : (t : ℕ) (c : seek-lts.After-struct-known (calls t) (seek-at t) seek.Post Inv-loop μ-loop) (g : Found) (v : ℕ)
-    → let r = c .before .before .told .result in
+    → let r = c .before .before .recalled .result in
     let b = c .before .before .before .before .before .before .before .byte .result in
     let loop = c .before .before .before .before .before .before .before .before .before .before in
     let u = loop .loop in
@@ -165,12 +165,12 @@ took t c g v =
     let turn = j .before .before .before .before in
     let u = turn .before .loop in
     let r = c .before .before in
-    taken _ _ _ _ _ _ _ (known t (turn .before)) (u .w) (b .result) (j .join .result) (u .inv .0 .chosen (turn .loop-test .taken)) (b .ensures) (j .join .ensures) (u .tries) (r .told .result) (rest-is t r)
+    taken _ _ _ _ _ _ _ (known t (turn .before)) (u .w) (b .result) (j .join .result) (u .inv .0 .chosen (turn .loop-test .taken)) (b .ensures) (j .join .ensures) (u .tries) (r .recalled .result) (rest-is t r)
     (u .best) (u .inv .0) (turn .loop-test .taken) (j .before .before .before .if2 .left) (c .before .if4 .left) g v
 
 add-tries-2 : (t : ℕ) → seek-lts.Need-add-tries-2 (calls t) (seek-at t) seek.Post Inv-loop μ-loop
 add-tries-2 t c =
-    let r = c .before .before .told .result in
+    let r = c .before .before .recalled .result in
     let b = c .before .before .before .before .before .before .before .byte .result in
     let loop = c .before .before .before .before .before .before .before .before .before .before in
     let s = loop .before .before .before .before .before .before .before .before in
@@ -185,7 +185,7 @@ wider-requires t c κs =
     let turn = j .before .before .before .before in
     let u = turn .before .loop in
     let r = c .before .before in
-    fits _ _ _ _ _ _ _ (known t (turn .before)) (u .w) (b .result) (j .join .result) (u .inv .0 .chosen (turn .loop-test .taken)) (b .ensures) (j .join .ensures) (u .tries) (r .told .result) (rest-is t r)
+    fits _ _ _ _ _ _ _ (known t (turn .before)) (u .w) (b .result) (j .join .result) (u .inv .0 .chosen (turn .loop-test .taken)) (b .ensures) (j .join .ensures) (u .tries) (r .recalled .result) (rest-is t r)
 
 next-choice-requires-2 : (t : ℕ) → seek-lts.Need-next-choice-requires-2 (calls t) (seek-at t) seek.Post Inv-loop μ-loop
 next-choice-requires-2 t c κs =
@@ -204,7 +204,7 @@ loop-less t c =
 returns-4 : (t : ℕ) → seek-lts.Need-returns-4 (calls t) (seek-at t) seek.Post Inv-loop μ-loop
 returns-4 t c =
     let u = c .before .before .before .loop in
-    gives _ _ _ (c .before .total .result) (u .near)
+    gives _ _ _ (c .before .total .result) (u .kept)
     (c .before .total .ensures ∙ ended _ _ _ _ _ _ _ (known t (c .before .before .before)) (u .best) (u .tries) (u .w) (u .inv .0) (c .before .before .loop-test .left) _ refl)
     (u .inv .1 .0) (c .keep4 .result) (c .keep4 .ensures)
 

@@ -1,5 +1,4 @@
 -- `header::test_pair` refuses as the pair is refused, says no to another length, and else what the stages say. Assumes nothing.
-use mathlib.Core.Path.{sym, _∙_}
 use borrow.Author.Needs.{needs}
 use Rattle.header.proofs.Opened.{opened, home-small, start-stages}
 use Rattle.header.proofs.Issued.{test-none, test-long, test-said}
@@ -18,14 +17,13 @@ returns c = test-none _ _ _ (c .before .before .before .before .mask-pair .ensur
 wide-requires : tie.Need-wide-requires
 wide-requires c κs = search needs
 
-refused-requires : tie.Need-refused-requires
-refused-requires c κs = search needs
-
-said-requires-2 : tie.Need-said-requires-2
-said-requires-2 c κs = search needs
+verdict-requires : tie.Need-verdict-requires
+verdict-requires c κs = search needs
 
 returns-2 : tie.Need-returns-2
-returns-2 c = test-long _ _ _ (c .before .before .before .before .before .before .before .mask-pair .ensures) _ (c .before .before .before .before .if1 .left) (c .before .refused .ensures) (c .before .before .before .wide .ensures) (c .before .before .if2 .taken) (c .said2 .ensures)
+returns-2 c =
+    let w = c .before .before in
+    test-long _ _ _ (w .before .before .before .before .mask-pair .ensures) _ (w .before .if1 .left) (w .wide .ensures) (c .before .if2 .taken) (c .verdict .ensures)
 
 shl-stages-pass : tie.Need-shl-stages-pass
 shl-stages-pass c = home-small (opened _ _ _ (c .before .before .before .before .before .before .before .mask-pair .ensures) (c .before .before .before .before .if1 .left))
@@ -33,27 +31,14 @@ shl-stages-pass c = home-small (opened _ _ _ (c .before .before .before .before 
 stages-pass-requires : tie.Need-stages-pass-requires
 stages-pass-requires c κs = start-stages (opened _ _ _ (c .before .before .before .before .before .before .before .mask-pair .ensures) (c .before .before .before .before .if1 .left))
 
-refused-requires-2 : tie.Need-refused-requires-2
-refused-requires-2 c κs = search needs
-
-said-requires-3 : tie.Need-said-requires-3
-said-requires-3 c κs = search needs
+verdict-requires-2 : tie.Need-verdict-requires-2
+verdict-requires-2 c κs = search needs
 
 returns-3 : tie.Need-returns-3
 returns-3 c =
-    test-said _ _ _ (c .before .before .before .before .before .before .before .before .before .before .before .mask-pair .ensures) _ (c .before .before .before .before .before .before .before .before .if1 .left) (c .before .refused2 .ensures) (c .before .before .before .before .before .before .before .wide .ensures) (c .before .before .before .before .before .before .if2 .left)
-    (sym (c .before .before .if3 .taken) ∙ c .before .before .before .stages-pass .ensures) (c .said3 .ensures)
-
-refused-requires-3 : tie.Need-refused-requires-3
-refused-requires-3 c κs = search needs
-
-said-requires-4 : tie.Need-said-requires-4
-said-requires-4 c κs = search needs
-
-returns-4 : tie.Need-returns-4
-returns-4 c =
-    test-said _ _ _ (c .before .before .before .before .before .before .before .before .before .before .before .mask-pair .ensures) _ (c .before .before .before .before .before .before .before .before .if1 .left) (c .before .refused3 .ensures) (c .before .before .before .before .before .before .before .wide .ensures) (c .before .before .before .before .before .before .if2 .left)
-    (sym (c .before .before .if3 .left) ∙ c .before .before .before .stages-pass .ensures) (c .said4 .ensures)
+    let w = c .before .before .before .before .before in
+    test-said _ _ _ (w .before .before .before .before .mask-pair .ensures) _ (w .before .if1 .left) (w .wide .ensures) (c .before .before .before .before .if2 .left)
+    (c .before .stages-pass .ensures) (c .verdict2 .ensures)
 
 pub test-pair-spec : {M : Type 1} → statement M
 test-pair-spec =
@@ -63,14 +48,9 @@ test-pair-spec =
     said-requires
     returns
     wide-requires
-    refused-requires
-    said-requires-2
+    verdict-requires
     returns-2
     shl-stages-pass
     stages-pass-requires
-    refused-requires-2
-    said-requires-3
-    returns-3
-    refused-requires-3
-    said-requires-4
-    returns-4)
+    verdict-requires-2
+    returns-3)

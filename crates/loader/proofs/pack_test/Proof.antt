@@ -13,8 +13,8 @@ returns : tie.Need-returns
 unfolding packedTest
 returns c = packs-refused _ _ _ _ (c .before .if1 .taken) (c .refusal .ensures)
 
-verdict-requires : tie.Need-verdict-requires
-verdict-requires c κs = search needs
+verdict-number-requires : tie.Need-verdict-number-requires
+verdict-number-requires c κs = search needs
 
 mul-result : tie.Need-mul-result
 mul-result c = search needs
@@ -25,4 +25,4 @@ returns-2 c = packs-made _ _ _ _ (c .before .if1 .left) (omega arith)
 
 pub pack-test-spec : {M : Type 1} → statement M
 pack-test-spec =
-    tie.close (tie.spec refusal-requires returns verdict-requires mul-result returns-2)
+    tie.close (tie.spec refusal-requires returns verdict-number-requires mul-result returns-2)

@@ -19,17 +19,17 @@ small-requires c κs = search needs
 small-requires-2 : tie.Need-small-requires-2
 small-requires-2 c κs = search needs
 
-mul-left : tie.Need-mul-left
-mul-left c = search needs
+mul-hops-and-left : tie.Need-mul-hops-and-left
+mul-hops-and-left c = search needs
 
-add-left : tie.Need-add-left
-add-left c = search needs
+add-hops-and-left : tie.Need-add-hops-and-left
+add-hops-and-left c = search needs
 
-mul-left-2 : tie.Need-mul-left-2
-mul-left-2 c = search needs
+mul-hops-and-left-2 : tie.Need-mul-hops-and-left-2
+mul-hops-and-left-2 c = search needs
 
-ending-requires : tie.Need-ending-requires
-ending-requires c κs = search needs
+ending-number-requires : tie.Need-ending-number-requires
+ending-number-requires c κs = search needs
 
 half-requires : tie.Need-half-requires
 half-requires c κs = search needs
@@ -61,10 +61,10 @@ pack-walk-spec =
     returns
     small-requires
     small-requires-2
-    mul-left
-    add-left
-    mul-left-2
-    ending-requires
+    mul-hops-and-left
+    add-hops-and-left
+    mul-hops-and-left-2
+    ending-number-requires
     half-requires
     mul-result
     add-result

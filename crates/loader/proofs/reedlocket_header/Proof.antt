@@ -1,17 +1,11 @@
 -- `loader::reedlocket_header` refuses a field that is no row; else it issues in the table of all rows. Assumes nothing.
-use Prim.Native.Nat.{ℕ, _≤_}
-use native.Mathlib.Nat.{le-of-eq, sub-zero}
-use mathlib.Core.Path.{sym}
+use native.Mathlib.Nat.{sub-zero}
 use mathlib.Core.List.{[]}
-use lib.ListN.{length, replicate, length-replicate}
 use borrow.Author.Needs.{needs}
+use Rattle.fields.proofs.ReadLaws.{room}
 use Rattle.loader.proofs.Laws.{header-refused, header-within, header-issued}
 use Rattle.loader.proofs.reedlocket_header.Statement.{statement}
 use Rattle.loader.proofs.reedlocket_header.Tie as tie
-
--- the lent table has room for every table
-room : (x : ℕ) → 512 ≤ length (replicate 512 x)
-room x = le-of-eq (sym (length-replicate 512 x))
 
 slice-aggregate-read-rows : tie.Need-slice-aggregate-read-rows
 slice-aggregate-read-rows c = search needs

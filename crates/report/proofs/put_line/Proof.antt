@@ -14,11 +14,11 @@ half-requires c κs = search needs
 half-requires-2 : tie.Need-half-requires-2
 half-requires-2 c κs = search needs
 
-slice-aggregate-answer : tie.Need-slice-aggregate-answer
-slice-aggregate-answer c = search needs
+slice-aggregate-issue-judged : tie.Need-slice-aggregate-issue-judged
+slice-aggregate-issue-judged c = search needs
 
-answer-requires : tie.Need-answer-requires
-answer-requires c κs = search needs
+issue-judged-requires : tie.Need-issue-judged-requires
+issue-judged-requires c κs = search needs
 
 small-requires : tie.Need-small-requires
 small-requires c κs = search needs
@@ -35,20 +35,20 @@ middle-requires-2 c κs = search needs
 -- the answer of the pair, and that the numbers are those of the answer
 known : (m : tie.After-middle2)
     → let w = m .before .before .before .before .before in
-    let g = w .before .before in Answered (now (g .before .before .before .before .args .table)) (g .before .half .result) (g .half2 .result) (w .answer .result) (w .answer .last .1 .1 .1 .1 .0)
+    let g = w .before .before in Answered (now (g .before .before .before .before .args .table)) (g .before .half .result) (g .half2 .result) (w .issue-judged .result) (w .issue-judged .last .1 .1 .1 .1 .0)
 known m =
     let w = m .before .before .before .before .before in
     let g = w .before .before in
-    answered (g .before .half .ensures .1) (g .half2 .ensures .1) (w .answer .ensures) (w .answer .kept .1 .1 .1 .1 .0)
+    answered (g .before .half .ensures .1) (g .half2 .ensures .1) (w .issue-judged .ensures) (w .issue-judged .kept .1 .1 .1 .1 .0)
 
 same : (m : tie.After-middle2)
     → let w = m .before .before .before .before .before in
     let g = w .before .before in
     _≡_ {A = List ℕ} (g .before .half .result ∷ g .half2 .result ∷ m .before .before .before .small .result ∷ m .before .before .small2 .result ∷ m .before .middle .result ∷ m .middle2 .result ∷ [])
-    (values (g .before .half .result) (g .half2 .result) (w .answer .result))
+    (values (g .before .half .result) (g .half2 .result) (w .issue-judged .result))
 same m =
     let w = m .before .before .before .before .before in
-    values-are _ _ (w .answer .result) (m .before .before .before .small .ensures) (m .before .before .small2 .ensures) (m .before .middle .ensures) (m .middle2 .ensures)
+    values-are _ _ (w .issue-judged .result) (m .before .before .before .small .ensures) (m .before .before .small2 .ensures) (m .before .middle .ensures) (m .middle2 .ensures)
 
 put-numbers-requires : tie.Need-put-numbers-requires
 put-numbers-requires c κs =
@@ -121,8 +121,8 @@ put-line-spec =
     (tie.spec
     half-requires
     half-requires-2
-    slice-aggregate-answer
-    answer-requires
+    slice-aggregate-issue-judged
+    issue-judged-requires
     small-requires
     small-requires-2
     middle-requires

@@ -9,16 +9,16 @@ use Rattle.report.proofs.put_lines.Statement.{statement}
 use Rattle.report.proofs.put_lines.Tie as tie
 
 abbrev Inv-loop : tie.InvT-loop
-Inv-loop table input from out₀ judged n at₀ i₀ out at i = Lined input out₀ at₀ n out at i
+Inv-loop table input from out₀ judged pairs at₀ i₀ out at i = Lined input out₀ at₀ pairs out at i
 
 abbrev μ-loop : tie.MeasureT-loop
-μ-loop table input from out₀ judged n at₀ i₀ out at i = n - i
+μ-loop table input from out₀ judged pairs at₀ i₀ out at i = pairs - i
 
 judge-requires : tie.Need-judge-requires Inv-loop μ-loop
 judge-requires c κs = search needs
 
-sub-n : tie.Need-sub-n Inv-loop μ-loop
-sub-n c = search needs
+sub-pairs : tie.Need-sub-pairs Inv-loop μ-loop
+sub-pairs c = search needs
 
 slice-aggregate-put : tie.Need-slice-aggregate-put Inv-loop μ-loop
 slice-aggregate-put c = search needs
@@ -89,7 +89,7 @@ put-lines-spec =
     Inv-loop
     μ-loop
     judge-requires
-    sub-n
+    sub-pairs
     slice-aggregate-put
     put-requires
     loop-holds

@@ -1,19 +1,15 @@
 -- `report::report` meets its contract: each way out puts the text that the input asks for. Assumes nothing.
-use Prim.Native.Nat.{ℕ, _≤_}
-use native.Mathlib.Nat.{le-of-eq, sub-zero}
-use mathlib.Core.Path.{refl, sym}
-use lib.ListN.{length, replicate, length-replicate}
+use native.Mathlib.Nat.{sub-zero}
+use mathlib.Core.Path.{refl}
+use lib.ListN.{length}
 use denote.Ref.{now}
 use Rattle.rules.specs.Sets.{tabulate}
 use Rattle.rules.specs.Print.{ascii, tooLongText}
+use Rattle.fields.proofs.ReadLaws.{room}
 use Rattle.report.proofs.ReportLaws.{report-none, report-long, report-bad, report-good, report-within, report-ready}
 use borrow.Author.Needs.{needs}
 use Rattle.report.proofs.report.Statement.{statement}
 use Rattle.report.proofs.report.Tie as tie
-
--- the lent table has room for every table
-space : (x : ℕ) → 512 ≤ length (replicate 512 x)
-space x = le-of-eq (sym (length-replicate 512 x))
 
 returns : tie.Need-returns
 returns c = report-none _ _ (c .if1 .taken)
@@ -52,13 +48,13 @@ returns-3 c =
     let i = p .before .before in
     let r = i .before .before .before in
     let e = r .before .before in
-    report-bad _ _ (e .before .if1 .left) _ (space 0) _ _ (r .read .ensures) (e .if2 .left) _ _ (i .if3 .taken) (p .put-bad-field .ensures)
+    report-bad _ _ (e .before .if1 .left) _ (room 0) _ _ (r .read .ensures) (e .if2 .left) _ _ (i .if3 .taken) (p .put-bad-field .ensures)
 
 wide-requires : tie.Need-wide-requires
 wide-requires c κs = search needs
 
-mul-n : tie.Need-mul-n
-mul-n c = search needs
+mul-entries : tie.Need-mul-entries
+mul-entries c = search needs
 
 sub-put-lines : tie.Need-sub-put-lines
 sub-put-lines c = search needs
@@ -72,7 +68,7 @@ part-put-lines-end c =
     let i = w .before in
     let r = i .before .before .before in
     let e = r .before .before in
-    report-within _ (now (e .before .before .before .before .args .out)) (e .before .if1 .left) _ (space 0) _ _ (r .read .ensures) (e .if2 .left) (i .if3 .left) _ (w .wide .ensures) (r .read .kept .1 .0)
+    report-within _ (now (e .before .before .before .before .args .out)) (e .before .if1 .left) _ (room 0) _ _ (r .read .ensures) (e .if2 .left) (i .if3 .left) _ (w .wide .ensures) (r .read .kept .1 .0)
 
 put-lines-requires : tie.Need-put-lines-requires
 put-lines-requires c κs =
@@ -80,7 +76,7 @@ put-lines-requires c κs =
     let i = w .before in
     let r = i .before .before .before in
     let e = r .before .before in
-    (report-ready _ (now (e .before .before .before .before .args .out)) (e .before .if1 .left) _ (space 0) _ _ (r .read .ensures) (e .if2 .left) (i .if3 .left) _ (w .wide .ensures) _ (sub-zero _), e .before .if1 .left)
+    (report-ready _ (now (e .before .before .before .before .args .out)) (e .before .if1 .left) _ (room 0) _ _ (r .read .ensures) (e .if2 .left) (i .if3 .left) _ (w .wide .ensures) _ (sub-zero _), e .before .if1 .left)
 
 same-length-3 : tie.Need-same-length-3
 same-length-3 c = search needs
@@ -92,7 +88,7 @@ returns-4 c =
     let i = w .before in
     let r = i .before .before .before in
     let e = r .before .before in
-    report-good _ _ (e .before .if1 .left) _ (space 0) _ _ (r .read .ensures) (e .if2 .left) (i .if3 .left) _ _ (p .put-lines .ensures)
+    report-good _ _ (e .before .if1 .left) _ (room 0) _ _ (r .read .ensures) (e .if2 .left) (i .if3 .left) _ _ (p .put-lines .ensures)
 
 pub report-spec : {M : Type 1} → statement M
 report-spec =
@@ -109,7 +105,7 @@ report-spec =
     same-length-2
     returns-3
     wide-requires
-    mul-n
+    mul-entries
     sub-put-lines
     part-put-lines-start
     part-put-lines-end

@@ -11,20 +11,20 @@ use Rattle.walk.proofs.chosen.Statement.{statement}
 use Rattle.walk.proofs.chosen.Tie as tie
 
 abbrev Inv-loop : tie.InvT-loop
-Inv-loop word choice k below₀ p₀ below p = Counted word k below p
+Inv-loop word choice wanted below₀ p₀ below p = Counted word wanted below p
 
 abbrev μ-loop : tie.MeasureT-loop
-μ-loop word choice k below₀ p₀ below p = 8 - p
+μ-loop word choice wanted below₀ p₀ below p = 8 - p
 
--- k is what the rule asks for
+-- `wanted` is what the rule asks for
 modulo : (c : tie.After-long Inv-loop μ-loop) → c .long .result % ones (c .before .args .word) ≡ c .before .args .choice % ones (c .before .args .word)
 modulo c = ap (λ (n : ℕ). n % ones (c .before .args .word)) (c .long .ensures)
 
 long-requires : tie.Need-long-requires Inv-loop μ-loop
 long-requires c κs = search needs
 
-rem-k : tie.Need-rem-k Inv-loop μ-loop
-rem-k c = ones-pos (c .before .args .word) (c .before .pre)
+rem-wanted : tie.Need-rem-wanted Inv-loop μ-loop
+rem-wanted c = ones-pos (c .before .args .word) (c .before .pre)
 
 loop-holds : tie.Need-loop-holds Inv-loop μ-loop
 loop-holds c = counted-start _ _
@@ -65,7 +65,7 @@ chosen-spec =
     Inv-loop
     μ-loop
     long-requires
-    rem-k
+    rem-wanted
     loop-holds
     cast-if1
     shr-if1

@@ -8,7 +8,8 @@ use lib.ListN.{length}
 use Rattle.rules.specs.Table.{house, leads, farOf}
 use Rattle.rules.proofs.Ports.{port-exact}
 use Rattle.walk.specs.Step.{crossing, stepOf}
-use Rattle.walk.proofs.Laws.{port-inside, step-empty, step-read, step-moved, step-arrived, step-none, step-bad}
+use Rattle.rules.proofs.Tables.{port-inside}
+use Rattle.walk.proofs.Laws.{step-empty, step-read, step-moved, step-arrived, step-none, step-bad}
 use Rattle.walk.proofs.hop.Statement.{statement}
 use Rattle.walk.proofs.hop.Tie as tie
 

@@ -3,7 +3,8 @@
 use Prim.Native.Nat.{_-_}
 use native.Mathlib.Omega.{arith}
 use borrow.Author.Needs.{needs}
-use Rattle.ways.proofs.SearchCode.{Going, port-inside, begin-place, begin-inside, begin-low, going-start, going-inside, going-none, going-seen, going-room, going-new, going-end}
+use Rattle.rules.proofs.Tables.{port-inside}
+use Rattle.ways.proofs.SearchCode.{Going, begin-place, begin-inside, begin-low, going-start, going-inside, going-none, going-seen, going-room, going-new, going-end}
 use Rattle.ways.proofs.expand.Statement.{statement}
 use Rattle.ways.proofs.expand.Tie as tie
 

@@ -5,7 +5,8 @@ use mathlib.Core.Logic.{⊎-elim}
 use mathlib.Core.Path.{sym, _∙_}
 use borrow.Author.Needs.{needs}
 use Rattle.wiring.proofs.Laws.{Passed, passed-start, passed-one}
-use Rattle.ways.proofs.SearchCode.{At, port-inside, port-told, port-not, port-other, stands-here, stands-nowhere}
+use Rattle.rules.proofs.Tables.{port-inside}
+use Rattle.ways.proofs.SearchCode.{At, port-told, port-not, port-other, stands-here, stands-nowhere}
 use Rattle.ways.proofs.stands_at.Statement.{statement}
 use Rattle.ways.proofs.stands_at.Tie as tie
 

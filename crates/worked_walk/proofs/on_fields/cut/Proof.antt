@@ -1,4 +1,4 @@
--- `worked::on_fields::cut` is safe: n rises to 53. The measure is the cuts left. Assumes nothing.
+-- `worked_walk::on_fields::cut` is safe: n rises to 53. The measure is the cuts left. Assumes nothing.
 use borrow.Author.Needs.{needs}
 use Prim.Native.Nat.{_-_}
 use Rattle.worked_walk.proofs.on_fields.cut.Statement.{statement}

@@ -1,4 +1,4 @@
--- `worked::on_fields::rows` is safe: a row begins at 19 * k with k below 65. The measure is the rows left. Assumes nothing.
+-- `worked_walk::on_fields::rows` is safe: a row begins at 19 * k with k below 65. The measure is the rows left. Assumes nothing.
 use borrow.Author.Needs.{needs}
 use Prim.Native.Nat.{_-_}
 use Rattle.worked_walk.proofs.on_fields.rows.Statement.{statement}

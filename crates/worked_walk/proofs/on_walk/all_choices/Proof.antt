@@ -1,4 +1,4 @@
--- `worked::on_walk::all_choices` is safe: c rises to 255, which a byte holds. The measure is the choices left. Assumes nothing.
+-- `worked_walk::on_walk::all_choices` is safe: c rises to 255, which a byte holds. The measure is the choices left. Assumes nothing.
 use borrow.Author.Needs.{needs}
 use Prim.Native.Nat.{_-_}
 use Rattle.worked_walk.proofs.on_walk.all_choices.Statement.{statement}

@@ -1,8 +1,8 @@
--- `report::answer` meets its contract: the judge decides, and then the pair. Assumes nothing.
+-- `report::issue_judged` meets its contract: the judge decides, and then the pair. Assumes nothing.
 use Rattle.report.proofs.LineLaws.{answer-refused, answer-given}
 use borrow.Author.Needs.{needs}
-use Rattle.report.proofs.answer.Statement.{statement}
-use Rattle.report.proofs.answer.Tie as tie
+use Rattle.report.proofs.issue_judged.Statement.{statement}
+use Rattle.report.proofs.issue_judged.Tie as tie
 
 returns : tie.Need-returns
 returns c = answer-refused _ _ (c .before .before .before .before .pre) _ _ _ (c .if1 .taken)
@@ -18,5 +18,5 @@ returns-2 c =
     let p = c .before .before in
     answer-given _ _ (p .before .before .before .before .before .before .pre) _ _ _ _ _ (p .before .before .if1 .left) (p .issue-pair .ensures)
 
-pub answer-spec : {M : Type 1} → statement M
-answer-spec = tie.close (tie.spec returns issue-pair-requires same-length returns-2)
+pub issue-judged-spec : {M : Type 1} → statement M
+issue-judged-spec = tie.close (tie.spec returns issue-pair-requires same-length returns-2)

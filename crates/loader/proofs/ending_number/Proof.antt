@@ -1,10 +1,10 @@
--- `loader::ending` gives each case its number. Assumes nothing.
+-- `loader::ending_number` gives each case its number. Assumes nothing.
 use native.Mathlib.Omega.{arith}
 use mathlib.Core.Path.{sym, ap}
 use borrow.Author.Needs.{needs}
 use Rattle.rules.specs.Pack.{endingNumber}
-use Rattle.loader.proofs.ending.Statement.{statement}
-use Rattle.loader.proofs.ending.Tie as tie
+use Rattle.loader.proofs.ending_number.Statement.{statement}
+use Rattle.loader.proofs.ending_number.Tie as tie
 
 enum-told : tie.Need-enum-told
 enum-told c = search needs
@@ -48,8 +48,8 @@ returns-6 : tie.Need-returns-6
 unfolding endingNumber
 returns-6 c = (ap endingNumber (sym (c .enum-told6 .given .1)), omega arith)
 
-pub ending-spec : {M : Type 1} → statement M
-ending-spec =
+pub ending-number-spec : {M : Type 1} → statement M
+ending-number-spec =
     tie.close
     (tie.spec
     enum-told

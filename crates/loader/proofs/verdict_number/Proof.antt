@@ -1,10 +1,10 @@
--- `loader::verdict` gives each case its number. Assumes nothing.
+-- `loader::verdict_number` gives each case its number. Assumes nothing.
 use native.Mathlib.Omega.{arith}
 use mathlib.Core.Path.{sym, ap}
 use borrow.Author.Needs.{needs}
 use Rattle.rules.specs.Pack.{verdictNumber}
-use Rattle.loader.proofs.verdict.Statement.{statement}
-use Rattle.loader.proofs.verdict.Tie as tie
+use Rattle.loader.proofs.verdict_number.Statement.{statement}
+use Rattle.loader.proofs.verdict_number.Tie as tie
 
 enum-told : tie.Need-enum-told
 enum-told c = search needs
@@ -27,5 +27,5 @@ returns-3 : tie.Need-returns-3
 unfolding verdictNumber
 returns-3 c = (ap verdictNumber (sym (c .enum-told3 .given .1)), omega arith)
 
-pub verdict-spec : {M : Type 1} → statement M
-verdict-spec = tie.close (tie.spec enum-told enum-told-2 enum-told-3 returns returns-2 returns-3)
+pub verdict-number-spec : {M : Type 1} → statement M
+verdict-number-spec = tie.close (tie.spec enum-told enum-told-2 enum-told-3 returns returns-2 returns-3)
