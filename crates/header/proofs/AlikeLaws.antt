@@ -18,7 +18,8 @@ use Rattle.rules.specs.Tries.{choice, common, reach, tries}
 use Rattle.rules.specs.Run.{widest, best}
 use Rattle.rules.proofs.Counted.{sum-same}
 use Rattle.rules.proofs.Search.{in-reach}
-use Rattle.header.specs.Found.{found, foundOf, beyondFound, singles, joined, Alike, Grouped}
+use Rattle.found.specs.Found.{overBudget}
+use Rattle.header.specs.Search.{found, foundOf, singles, joined, Alike, Grouped}
 use Rattle.header.proofs.LastStage.{choice-in}
 use Rattle.header.proofs.LeafLaws.{same-members, in-or, reach-lt, in-common, in-single, singles-at, joined-reach}
 
@@ -78,7 +79,7 @@ module _ (far : ℕ → ℕ → Far) (size : ℕ) (mask : ℕ → ℕ) where
 
       pub found-alike : (n k : ℕ) → foundOf far size mask a n k ≡ foundOf far size mask b n k
       unfolding foundOf
-      found-alike n k = ap₂ (λ (x : ℕ) (y : Option (List ℕ)). cond (ltb k x) beyondFound (found y x)) (tries-alike (n - 1)) (best-alike n)
+      found-alike n k = ap₂ (λ (x : ℕ) (y : Option (List ℕ)). cond (ltb k x) overBudget (found y x)) (tries-alike (n - 1)) (best-alike n)
 
     -- ---- joined
 

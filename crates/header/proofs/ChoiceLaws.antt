@@ -11,7 +11,7 @@ use lib.Bits.{bitAnd, bitOr, and-step, or-step, or-add-and, or-disjoint, and-le-
 use Rattle.rules.specs.Sets.{has, within}
 use Rattle.rules.specs.Tries.{choice}
 use Rattle.rules.proofs.SetLaws.{T-and, and-i, T-true, true-T, eq-T, same, has-and, has-or, in-within, least-is, least-one}
-use Rattle.header.specs.Found.{nextChoice}
+use Rattle.header.specs.Search.{nextChoice}
 
 -- ---- the parts of a number inside c and outside, in d
 

@@ -16,7 +16,7 @@ use Rattle.rules.specs.Sets.{has}
 use Rattle.rules.specs.Net.{Far}
 use Rattle.rules.specs.Tries.{common, reach}
 use Rattle.rules.proofs.Lists.{length-tabulate}
-use Rattle.header.specs.Found.{singles, Alike, Grouped}
+use Rattle.header.specs.Search.{singles, Alike, Grouped}
 use Rattle.header.proofs.LeafLaws.{in-common, common-size}
 use Rattle.header.proofs.AlikeLaws.{alike-self, alike-on, single-lt}
 

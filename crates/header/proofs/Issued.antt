@@ -16,7 +16,7 @@ use Rattle.rules.specs.declared.TestAnswer.{TestAnswer}
 use Rattle.rules.specs.declared.Verdict.{Verdict}
 use Rattle.rules.specs.declared.Verdict.the-variants.{Neither, No, Yes}
 use Rattle.ways.specs.declared.Pair.{Pair}
-use Rattle.header.specs.declared.Found.{Found}
+use Rattle.found.specs.declared.Found.{Found}
 use Rattle.rules.specs.Tries.{limit, tries, chooses}
 use Rattle.rules.specs.Run.{best}
 use Rattle.rules.specs.Table.{house, farOf, switches}
@@ -25,7 +25,8 @@ use Rattle.rules.specs.Look.{first, accepted, answered}
 use Rattle.rules.specs.RunTable.{home}
 use Rattle.rules.specs.RunPair.{words, distance, mask, triesOf, wordsOf, passesOf, look8, look9}
 use Rattle.ways.specs.Pairs.{pairJudgement, pairOf}
-use Rattle.header.specs.Found.{found, wordsIn, countIn, foundOf, beyondFound}
+use Rattle.found.specs.Found.{overBudget}
+use Rattle.header.specs.Search.{found, wordsIn, countIn, foundOf}
 use Rattle.header.specs.Pairs.{issuePairJudgement, issuePair, issuePairMemory, testPair}
 use Rattle.rules.proofs.Says.{first-none, first-some, answered-refused, answered-accepted, accepted-true}
 use Rattle.rules.proofs.Lists.{getD-tabulate}
@@ -87,7 +88,7 @@ module _ (t : List ℕ) (a d : ℕ) {p : Pair} (is : p ≡ pairOf house t a d) w
 
     -- the search as the code makes it
     module _ {f : Found} {n : ℕ} (e : n ≡ p .answer .distance) (sought : f ≡ foundOf (farOf house t) (switches t) (λ s. getD (p .masks) s 0) (1 * 2 ^ p .home % 2 ^ 64) n 65536) where
-      same-found : f ≡ cond (ltb limit (triesOf house t a d)) beyondFound (found (some (wordsOf house t a d)) (triesOf house t a d))
+      same-found : f ≡ cond (ltb limit (triesOf house t a d)) overBudget (found (some (wordsOf house t a d)) (triesOf house t a d))
       unfolding foundOf triesOf code
       same-found =
           let far = farOf house t in
@@ -97,7 +98,7 @@ module _ (t : List ℕ) (a d : ℕ) {p : Pair} (is : p ≡ pairOf house t a d) w
           let k = distance house t a d in
           sought
           ∙ ap₂ (λ (x y : ℕ). foundOf far size code x y 65536) (start-is o) (e ∙ ap (λ (r : Answer). r .distance) (o .told))
-          ∙ ap₂ (λ (x : ℕ) (h : Option (List ℕ)). cond (ltb 65536 x) beyondFound (found h x)) (tries-same far size code m kept (k - 1) s) (best-same far size code m kept k s ∙ header .1 ∙ ap {B = Option (List ℕ)} some (sym words-are))
+          ∙ ap₂ (λ (x : ℕ) (h : Option (List ℕ)). cond (ltb 65536 x) overBudget (found h x)) (tries-same far size code m kept (k - 1) s) (best-same far size code m kept k s ∙ header .1 ∙ ap {B = Option (List ℕ)} some (sym words-are))
 
       pub issue-over : (out : List ℕ) {r : Answer} → 8 ≤ length out → f .over ≡ true → r ≡ bare (record { number = 9; place = 0 }) → Issues t a d out r out
       unfolding found
@@ -108,7 +109,7 @@ module _ (t : List ℕ) (a d : ℕ) {p : Pair} (is : p ≡ pairOf house t a d) w
         where
           at : (b : Bool) → ltb limit (triesOf house t a d) ≡ b → ltb limit (triesOf house t a d) ≡ true
           at true h = h
-          at false h = let w : false ≡ true = sym (ap (λ (b : Bool). cond b beyondFound (found (some (wordsOf house t a d)) (triesOf house t a d)) .over) h) ∙ sym (ap (λ (x : Found). x .over) same-found) ∙ v in absurd (subst (λ (b : Bool). T (not b)) w tt)
+          at false h = let w : false ≡ true = sym (ap (λ (b : Bool). cond b overBudget (found (some (wordsOf house t a d)) (triesOf house t a d)) .over) h) ∙ sym (ap (λ (x : Found). x .over) same-found) ∙ v in absurd (subst (λ (b : Bool). T (not b)) w tt)
 
       pub issue-found : (out : List ℕ) {r : Answer} {w : List ℕ} → 8 ≤ length out → f .over ≡ false
           → r ≡ record { number = 0; place = 0; distance = p .answer .distance; count = f .count; tries = f .tries }
@@ -129,11 +130,11 @@ module _ (t : List ℕ) (a d : ℕ) {p : Pair} (is : p ≡ pairOf house t a d) w
           dist = ap (λ (r : Answer). r .distance) (o .told)
 
           within : ltb limit (triesOf house t a d) ≡ false → f ≡ found (some ws) (triesOf house t a d)
-          within h = same-found ∙ ap (λ (b : Bool). cond b beyondFound (found (some ws) (triesOf house t a d))) h
+          within h = same-found ∙ ap (λ (b : Bool). cond b overBudget (found (some ws) (triesOf house t a d))) h
 
           at : (b : Bool) → ltb limit (triesOf house t a d) ≡ b → Issues t a d out r w
           at true h =
-              let x : true ≡ false = sym (ap (λ (b : Bool). cond b beyondFound (found (some ws) (triesOf house t a d)) .over) h) ∙ sym (ap (λ (x : Found). x .over) same-found) ∙ u in
+              let x : true ≡ false = sym (ap (λ (b : Bool). cond b overBudget (found (some ws) (triesOf house t a d)) .over) h) ∙ sym (ap (λ (x : Found). x .over) same-found) ∙ u in
               absurd (subst (λ (b : Bool). T b) x tt)
           at false h =
               let y = within h in

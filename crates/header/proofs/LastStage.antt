@@ -19,8 +19,9 @@ use Rattle.rules.proofs.SetLaws.{T-and, and-i, T-true, same-T, same, dec-T, eq-
 use Rattle.rules.proofs.Counts.{count-part, count-more, ones-count}
 use Rattle.rules.proofs.Widest.{Answers, answers-widest, best-one, Under}
 use Rattle.rules.proofs.Search.{common-byte}
-use Rattle.header.specs.declared.Found.{Found}
-use Rattle.header.specs.Found.{wordsIn, countIn, found, foundOf, lastFound}
+use Rattle.found.specs.declared.Found.{Found}
+use Rattle.found.specs.Found.{lastFound}
+use Rattle.header.specs.Search.{wordsIn, countIn, found, foundOf}
 
 -- ---- choices
 

@@ -19,7 +19,7 @@ use Rattle.rules.specs.Tries.{common, reach, reaches}
 use Rattle.rules.proofs.SetLaws.{T-if, T-or, or-l, or-r, T-true, true-T, same-T, same, lt-cases, all-at, all-yes, in-setOf, setOf-lt, has-small, has-nothing, has-or, has-single}
 use Rattle.rules.proofs.Lists.{getD-tabulate}
 use Rattle.rules.proofs.Search.{in-reach}
-use Rattle.header.specs.Found.{singles, joined}
+use Rattle.header.specs.Search.{singles, joined}
 
 -- two sets with the same members are one number
 pub same-members : (m n : ℕ) → ((s : ℕ) → T (has s m) → T (has s n)) → ((s : ℕ) → T (has s n) → T (has s m)) → m ≡ n

@@ -28,7 +28,7 @@ use Rattle.rules.proofs.Layers.{dist-cases, unreachable-is}
 use Rattle.rules.proofs.Tables.{farOf-wired}
 use Rattle.rules.proofs.Homes.{in-attached, home-is, port-of}
 use Rattle.ways.proofs.PairLaws.{five, pair-number}
-use Rattle.header.specs.Found.{Stages, Searches}
+use Rattle.header.specs.Search.{Stages, Searches}
 
 -- a row that gives none
 row-false : (k : ℕ) (b : Bool) (ls : List Looked) → zero < k → first ((k, when b) ∷ ls) .number ≡ 0 → (b ≡ false) × (first ls .number ≡ 0)

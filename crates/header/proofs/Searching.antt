@@ -12,13 +12,14 @@ use Rattle.rules.specs.Net.{Far}
 use Rattle.rules.specs.Table.{house, switches, farOf}
 use Rattle.rules.specs.Tries.{choice, common, reach}
 use Rattle.rules.proofs.Tables.{farOf-wired}
-use Rattle.header.specs.declared.Found.{Found}
-use Rattle.header.specs.declared.Kept.{Kept}
-use Rattle.header.specs.Found.{Searches, Stages, Recalls, foundOf, lastFound, beyondFound, widerFound, nextChoice, joined, Grouped}
+use Rattle.found.specs.declared.Found.{Found}
+use Rattle.found.specs.declared.Kept.{Kept}
+use Rattle.found.specs.Found.{lastFound, overBudget, widerFound}
+use Rattle.header.specs.Search.{Searches, Stages, Recalls, foundOf, nextChoice, joined, Grouped}
 use Rattle.header.proofs.LeafLaws.{common-size}
 use Rattle.header.proofs.AlikeLaws.{AlikeInside, group-reach, found-alike}
 use Rattle.header.proofs.LastStage.{choice-in, found-last}
-use Rattle.header.proofs.Widths.{best-fine, found-few}
+use Rattle.header.proofs.Widths.{best-fine}
 use Rattle.header.proofs.WidestLaws.{Turn, after, cost, rest, whole, whole-is, turn-start, full-at, over-at, take-at, end-at}
 
 module _ (t ms : List ℕ) where
@@ -83,7 +84,7 @@ module _ (t ms : List ℕ) where
           ap (λ (b : Bool). record { words = h .words; count = h .count; tries = k; over = b }) (e ∙ le-ltb budget k (u .in-budget))
           ∙ end-at ports (after far (switches t) mask m left) (cost far (switches t) mask m left) budget h k w u l ∙ is-whole
 
-      pub full : (h : Found) (k w : ℕ) → Search h k w → w < 256 → k ≡ budget → (r : Found) → r ≡ beyondFound → r ≡ foundOf far (switches t) mask m left budget
+      pub full : (h : Found) (k w : ℕ) → Search h k w → w < 256 → k ≡ budget → (r : Found) → r ≡ overBudget → r ≡ foundOf far (switches t) mask m left budget
       full h k w u l e r q = q ∙ full-at ports (after far (switches t) mask m left) (cost far (switches t) mask m left) budget h k w u l e ∙ is-whole
 
       module _ (w word set : ℕ) (chosen : T (choice w ports)) (same : word ≡ w) (join : set ≡ joined sets word 8) where
@@ -112,17 +113,8 @@ module _ (t ms : List ℕ) where
           unfolding foundOf
           is-rest = found ∙ found-alike far (switches t) mask (farOf-wired house t) (to-reach .alike) (left - 1) (budget - k - 1)
 
-          pub fits : (1 ≤ left) × (left ≤ 8) × (r .count ≤ 2097152)
-          fits =
-              let s = known .searches in (
-                s .some,
-                s .few,
-                subst (λ (x : Found). x .count ≤ 2097152) (sym found)
-                    (found-few far (switches t) mask set (left - 1) (budget - k - 1) (let f = s .few in omega arith)),
-              )
-
           module _ (h : Found) (u : Search h k w) (l : w < 256) (room : k ≡ budget → ⊥) where
-            pub beyond : r .over ≡ true → (g : Found) → g ≡ beyondFound → g ≡ foundOf far (switches t) mask m left budget
+            pub beyond : r .over ≡ true → (g : Found) → g ≡ overBudget → g ≡ foundOf far (switches t) mask m left budget
             beyond e g q =
                 q ∙ over-at ports (after far (switches t) mask m left) (cost far (switches t) mask m left) budget h k w u l room
                 (sym (ap (λ (x : Found). x .over) is-rest) ∙ e) ∙ is-whole

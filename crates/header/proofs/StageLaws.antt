@@ -16,7 +16,7 @@ use Rattle.rules.specs.Net.{Far}
 use Rattle.rules.specs.Table.{house, switches, farOf}
 use Rattle.rules.specs.Tries.{common, choice, chooses, reach}
 use Rattle.rules.proofs.Tables.{farOf-wired}
-use Rattle.header.specs.Found.{Stages, singles, joined}
+use Rattle.header.specs.Search.{Stages, singles, joined}
 use Rattle.header.proofs.LeafLaws.{reach-lt, common-size, joined-reach}
 
 choice-yes : (w c : ℕ) → (w ≡ 0 → ⊥) → bitAnd w c ≡ w → choice w c ≡ true

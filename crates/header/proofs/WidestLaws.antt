@@ -20,8 +20,9 @@ use Rattle.rules.specs.Tries.{choice, common, reach, tries}
 use Rattle.rules.specs.Run.{wider, put, widest, best}
 use Rattle.rules.proofs.SetLaws.{true-T, same-T, Least, least-is}
 use Rattle.rules.proofs.Counts.{sum-part}
-use Rattle.header.specs.declared.Found.{Found}
-use Rattle.header.specs.Found.{wordsIn, countIn, found, beyondFound, foundOf, lastFound, widerFound, nextChoice}
+use Rattle.found.specs.declared.Found.{Found}
+use Rattle.found.specs.Found.{overBudget, lastFound, widerFound}
+use Rattle.header.specs.Search.{wordsIn, countIn, found, foundOf, nextChoice}
 use Rattle.header.proofs.LastStage.{choice-some}
 use Rattle.header.proofs.Widths.{Fine, wider-none, wider-found}
 
@@ -94,11 +95,11 @@ module _ (c : ℕ) (f : ℕ → Option (List ℕ)) (t : ℕ → ℕ) where
 
   -- what the whole search finds
   abbrev pub whole : ℕ → Found
-  whole budget = cond (ltb budget (sum 256 more)) beyondFound (found (widest 256 tail) (sum 256 more))
+  whole budget = cond (ltb budget (sum 256 more)) overBudget (found (widest 256 tail) (sum 256 more))
 
   -- what is found after the word w
   abbrev pub rest : ℕ → ℕ → Found
-  rest budget w = cond (ltb budget (t w)) beyondFound (found (f w) (t w))
+  rest budget w = cond (ltb budget (t w)) overBudget (found (f w) (t w))
 
   module _ (budget : ℕ) (h : Found) (k w : ℕ) (u : Turn budget h k w) where
     -- no word is left
@@ -120,30 +121,30 @@ module _ (c : ℕ) (f : ℕ → Option (List ℕ)) (t : ℕ → ℕ) where
       unfolding widest
       widest-next = let e = true-T (choice w c) (u .chosen l) in rw e
 
-      past : budget < k + suc (t w) → beyondFound ≡ whole budget
+      past : budget < k + suc (t w) → overBudget ≡ whole budget
       past b =
           let s = sum-part more (suc w) 256 l in
           let e = lt-ltb budget (sum 256 more) (omega (arith, sum-next)) in rw e
 
       -- a try more is beyond the budget
-      pub full-at : k ≡ budget → beyondFound ≡ whole budget
+      pub full-at : k ≡ budget → overBudget ≡ whole budget
       full-at e = past (omega arith)
 
       module _ (room : k ≡ budget → ⊥) where
         -- what comes after the word is beyond what is left of it
-        pub over-at : rest (budget - k - 1) w .over ≡ true → beyondFound ≡ whole budget
+        pub over-at : rest (budget - k - 1) w .over ≡ true → overBudget ≡ whole budget
         unfolding found
         over-at e = at (ltb (budget - k - 1) (t w)) refl e
           where
-            at : (b : Bool) → ltb (budget - k - 1) (t w) ≡ b → (cond b beyondFound (found (f w) (t w))) .over ≡ true → beyondFound ≡ whole budget
+            at : (b : Bool) → ltb (budget - k - 1) (t w) ≡ b → (cond b overBudget (found (f w) (t w))) .over ≡ true → overBudget ≡ whole budget
             at true i j = past (let z = ltb-true (budget - k - 1) (t w) i in omega (arith, u .in-budget))
             at false i j = let z : _≡_ {A = ℕ} 0 1 = cc in absurd (omega arith)
 
         within : rest (budget - k - 1) w .over ≡ false → (t w ≤ budget - k - 1) × (rest (budget - k - 1) w ≡ found (f w) (t w))
         within e = at (ltb (budget - k - 1) (t w)) refl e
           where
-            at : (b : Bool) → ltb (budget - k - 1) (t w) ≡ b → (cond b beyondFound (found (f w) (t w))) .over ≡ false
-                → (t w ≤ budget - k - 1) × (cond b beyondFound (found (f w) (t w)) ≡ found (f w) (t w))
+            at : (b : Bool) → ltb (budget - k - 1) (t w) ≡ b → (cond b overBudget (found (f w) (t w))) .over ≡ false
+                → (t w ≤ budget - k - 1) × (cond b overBudget (found (f w) (t w)) ≡ found (f w) (t w))
             at true i j = let z : _≡_ {A = ℕ} 0 1 = cc in absurd (omega arith)
             at false i j = (ltb-false (budget - k - 1) (t w) i, refl)
 
@@ -190,4 +191,4 @@ module _ (far : ℕ → ℕ → Far) (size : ℕ) (mask : ℕ → ℕ) (m left :
       let p = tries-step (left - 1) (omega arith) in
       let q = best-step left (omega arith) in
       subst (λ (x : ℕ). whole x after cost budget ≡ foundOf far size mask m left budget) (sym e)
-      (sym (ap₂ (λ (k : ℕ) (r : Option (List ℕ)). cond (ltb budget k) beyondFound (found r k)) p q))
+      (sym (ap₂ (λ (k : ℕ) (r : Option (List ℕ)). cond (ltb budget k) overBudget (found r k)) p q))

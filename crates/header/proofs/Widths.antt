@@ -1,9 +1,9 @@
 -- What the search finds: n words, none empty, and so at least 1 and at most 8 ^ n lists; and the wider of two as the code makes it, which is
 -- `wider` of the definitions. Assumes nothing.
 use Prim.Native.Nat.{ℕ, zero, suc, _*_, _-_, _^_, _≤_, _<_, zero-le}
-use native.Mathlib.Nat.{le-refl, le-trans, mul-comm, zero-mul, mul-le-mul, mul-pos, pow-succ', pow-le-pow-right}
+use native.Mathlib.Nat.{le-refl, le-of-suc-le-suc, mul-comm, zero-mul, mul-le-mul, mul-pos, pow-succ', pow-le-pow-right}
 use native.Mathlib.Omega.{arith}
-use mathlib.Core.Path.{_≡_, refl, ap, ap₂}
+use mathlib.Core.Path.{_≡_, refl, ap, ap₂, _∙_}
 use mathlib.Core.Bool.{Bool, true, false, cond}
 use mathlib.Core.List.{List, _∷_, _++_}
 use mathlib.Core.Option.{Option, none, some}
@@ -13,12 +13,14 @@ use lib.ListN.{length, set, replicate}
 use lib.Count.{ones, ones-le}
 use Rattle.rules.specs.Net.{Far}
 use Rattle.rules.specs.Header.{permits}
-use Rattle.rules.specs.Tries.{choice, common, reach, tries}
+use Rattle.rules.specs.Tries.{choice, common, reach}
 use Rattle.rules.specs.Run.{wider, put, widest, best}
 use Rattle.rules.proofs.SetLaws.{T-true}
 use Rattle.rules.proofs.Widest.{ones-pos}
-use Rattle.header.specs.declared.Found.{Found}
-use Rattle.header.specs.Found.{placed, wordsIn, countIn, found, beyondFound, foundOf, widerFound}
+use Rattle.found.specs.declared.Found.{Found}
+use Rattle.found.specs.Found.{widerFound}
+use Rattle.found.proofs.Laws.{widerWhole, wider-whole}
+use Rattle.header.specs.Search.{placed, wordsIn, countIn, found}
 use Rattle.header.proofs.LastStage.{choice-some}
 
 -- ---- what is found has n words, and none is empty
@@ -63,28 +65,11 @@ fine-widest n c f h (suc k) l = fine-wider (suc n) (widest k tail) (put k (tail 
     at true e = fine-put n k (f k) (choice-some k c (T-true e)) l (h k)
     at false e = tt
 
-fine-few : (n : ℕ) (r : Option (List ℕ)) → Fine n r → countIn r ≤ 8 ^ n
-unfolding Fine countIn
-fine-few n none h = zero-le
-fine-few n (some ws) h = h .few
-
 module _ (far : ℕ → ℕ → Far) (size : ℕ) (mask : ℕ → ℕ) where
   pub best-fine : (n m : ℕ) → Fine n (best far size mask n m)
   unfolding best Fine permits
   best-fine zero m = record { long = refl; wide = le-refl 1; few = le-refl 1 }
   best-fine (suc n) m = fine-widest n (common size mask m) (λ w. best far size mask n (reach far size m w)) (λ w. best-fine n (reach far size m w)) 256 (le-refl 256)
-
-  pub count-le : (n m : ℕ) → countIn (best far size mask n m) ≤ 8 ^ n
-  count-le n m = fine-few n (best far size mask n m) (best-fine n m)
-
-  -- the number of lists fits
-  pub found-few : (m n k : ℕ) → n ≤ 7 → foundOf far size mask m n k .count ≤ 2097152
-  unfolding foundOf found
-  found-few m n k l = at (ltb k (tries far size mask (n - 1) m))
-    where
-      at : (b : Bool) → (cond b beyondFound (found (best far size mask n m) (tries far size mask (n - 1) m))) .count ≤ 2097152
-      at true = omega arith
-      at false = le-trans (count-le n m) (pow-le-pow-right {n = 8} (lit< tt) {j = 7} l)
 
 -- ---- one word more in front
 
@@ -112,15 +97,24 @@ unfolding found wordsIn countIn permits
 put-found n w ws l s = ap₂ kept (placed-put n w ws (s .long) l) (mul-comm (permits ws) (ones w))
 
 -- the wider of two, of those kept and of those found
-pub wider-found : (n k w : ℕ) (h r : Option (List ℕ)) → n < 8 → zero < w → Fine n r → widerFound (found h 0) (found r k) w (suc n) ≡ found (wider h (put w r)) 0
-unfolding widerFound found wordsIn countIn Fine put wider permits
-wider-found n k w h none l z s = let e = le-leb 0 (countIn h) zero-le in rw (zero-mul, e, wider-none)
-wider-found n k w none (some ws) l z s =
+wider-plain : (n k w : ℕ) (h r : Option (List ℕ)) → n < 8 → zero < w → Fine n r → widerWhole (found h 0) (found r k) w (suc n) ≡ found (wider h (put w r)) 0
+unfolding found wordsIn countIn Fine put wider permits
+wider-plain n k w h none l z s = let e = le-leb 0 (countIn h) zero-le in rw (zero-mul, e, wider-none)
+wider-plain n k w none (some ws) l z s =
     let e = lt-leb (permits ws * ones w) 0 (mul-pos (s .wide) (ones-pos w z)) in rw e (put-found n w ws l s)
-wider-found n k w (some hs) (some ws) l z s = at (leb (permits ws * ones w) (permits hs)) refl
+wider-plain n k w (some hs) (some ws) l z s = at (leb (permits ws * ones w) (permits hs)) refl
   where
     at : (b : Bool) → leb (permits ws * ones w) (permits hs) ≡ b
         → cond b (found (some hs) 0) (kept (set (placed ws) (8 - suc n) w) (permits ws * ones w)) ≡ found (wider (some hs) (some (w ∷ ws))) 0
     at true e = let q = le-ltb (permits hs) (ones w * permits ws) (omega (arith, leb-true (permits ws * ones w) (permits hs) e)) in rw q
     at false e =
         let q = lt-ltb (permits hs) (ones w * permits ws) (omega (arith, leb-false (permits ws * ones w) (permits hs) e)) in rw q (put-found n w ws l s)
+
+-- a count of at most 8 ^ 7 is not cut
+fine-small : (n k : ℕ) (r : Option (List ℕ)) → n < 8 → Fine n r → found r k .count < 2 ^ 29
+unfolding Fine found countIn
+fine-small n k none l h = omega arith
+fine-small n k (some ws) l h = let m : 8 ^ n ≤ 8 ^ 7 = pow-le-pow-right {n = 8} (lit< tt) {j = 7} (le-of-suc-le-suc l) in omega (arith, h .few)
+
+pub wider-found : (n k w : ℕ) (h r : Option (List ℕ)) → n < 8 → zero < w → Fine n r → widerFound (found h 0) (found r k) w (suc n) ≡ found (wider h (put w r)) 0
+wider-found n k w h r l z s = wider-whole (found h 0) (found r k) w (suc n) (fine-small n k r l s) ∙ wider-plain n k w h r l z s

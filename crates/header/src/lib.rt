@@ -1,4 +1,16 @@
 // The header: the test of any header, the search for the widest one, and its issue. Sets of switches are 64-bit numbers.
+use found::Found;
+use found::Kept;
+use found::Sought;
+use found::keep;
+use found::last;
+use found::must_search;
+use found::none_kept;
+use found::over_budget;
+use found::recalled;
+use found::total;
+use found::wider;
+use found::write;
 use rules::Answer;
 use rules::Entry;
 use rules::TestAnswer;
@@ -7,39 +19,16 @@ use ways::mask_pair;
 use wiring::entry;
 use wiring::judge;
 ghost use mathlib.Core.Path.{_≡_};
-ghost use mathlib.Core.Bool.{true, false, cond};
-ghost use lib.Dec.{ltb};
-ghost use Prim.Native.Nat.{_+_, _-_, _^_, _≤_, _<_};
-ghost use mathlib.Core.List.{_++_};
-ghost use lib.ListN.{length, getD, drop, replicate};
+ghost use mathlib.Core.Bool.{true, cond};
+ghost use Prim.Native.Nat.{_+_, _-_, _^_, _<_};
+ghost use lib.ListN.{getD};
 ghost use Rattle.rules.specs.Sets.{within};
 ghost use Rattle.rules.specs.Table.{house, switches, farOf};
 ghost use Rattle.rules.specs.Tries.{common, chooses, reach};
 ghost use Rattle.rules.specs.Promise.{Tested, Issued};
 ghost use Rattle.rules.specs.declared.Verdict.the-variants.{No, Yes};
-ghost use Rattle.header.specs.Found.{nextChoice, Searches, Stages, Recalls, Gives, Alike, Grouped, singles, joined, foundOf, lastFound, widerFound, beyondFound};
+ghost use Rattle.header.specs.Search.{nextChoice, Searches, Stages, Recalls, Gives, Alike, Grouped, singles, joined, foundOf};
 ghost use Rattle.header.specs.Pairs.{issuePair, issuePairMemory, testPair};
-
-// The widest header found: its words at the end of the eight, the number of lists it permits, 0 where there is none, and the tries; or
-// that the tries would pass the budget.
-struct Found {
-    words: [u8; 8],
-    count: u32,
-    tries: u32,
-    over: bool,
-}
-
-// What was found from the set that was searched last at a stage; over where nothing is kept.
-struct Kept {
-    set: u64,
-    found: Found,
-}
-
-// What is found from a set, and what is kept of the stage after it.
-struct Sought {
-    found: Found,
-    next: Kept,
-}
 
 // Issues the widest header of a pair into the first eight bytes of out.
 pub fn issue(table: &[u16], source: u64, target: u64, out: &mut [u8]) -> Answer
@@ -170,8 +159,8 @@ fn widest(table: &[u16], masks: &[u8; 64], set: u64, left: usize, budget: u32) -
     sought.found
 }
 
-// The search for the widest header: each nonempty choice among the common ports is tried in rising order, and only a strictly wider header replaces the best.
-// Where a choice reaches the set that was searched last, what was found from it is recalled.
+// The search for the widest header: each nonempty choice among the common ports is tried in rising order, and only a strictly wider header
+// replaces the best. Where a choice reaches the set that was searched last, what was found from it is recalled.
 fn seek(table: &[u16], masks: &[u8; 64], set: u64, left: usize, budget: u32, next: Kept) -> Sought
     requires { ⌜ Searches (now table) set left × Recalls (farOf house (now table)) (switches (now table)) (λ s. getD (now masks) s 0) (left - 1) next ⌝ }
     ensures { λ r. ⌜ Gives (farOf house (now (table .entry))) (switches (now (table .entry))) (λ s. getD (now (masks .entry)) s 0) set left budget r ⌝ }
@@ -211,100 +200,6 @@ fn seek(table: &[u16], masks: &[u8; 64], set: u64, left: usize, budget: u32, nex
         w = next_choice(w, ports);
     }
     keep(total(best, tries, budget), kept)
-}
-
-fn keep(found: Found, next: Kept) -> Sought
-    ensures { λ r. ⌜ r ≡ record { found = found; next = next } ⌝ }
-{
-    Sought { found, next }
-}
-
-fn none_kept() -> Kept
-    ensures { λ r. ⌜ r ≡ record { set = 0; found = beyondFound } ⌝ }
-{
-    Kept {
-        set: 0,
-        found: over_budget(),
-    }
-}
-
-// Whether nothing is kept of the set, so that it has to be searched.
-fn must_search(kept: Kept, set: u64) -> bool
-    ensures { λ r. ⌜ (r ≡ false → (kept .set ≡ set) × (kept .found .over ≡ false)) ⌝ }
-{
-    if kept.set != set {
-        return true;
-    }
-    let found = kept.found;
-    found.over
-}
-
-// What is kept, as a search within `room` would find it.
-fn recalled(kept: Kept, room: u32) -> Found
-    ensures { λ r. ⌜ r ≡ cond (ltb room (kept .found .tries)) beyondFound (kept .found) ⌝ }
-{
-    let found = kept.found;
-    if room < found.tries {
-        return over_budget();
-    }
-    found
-}
-
-// What all choices of a set gave; over where the tries have passed the budget.
-fn total(best: Found, tries: u32, budget: u32) -> Found
-    ensures { λ r. ⌜ r ≡ record { words = best .words; count = best .count; tries = tries; over = ltb budget tries } ⌝ }
-{
-    let words = best.words;
-    Found {
-        words,
-        count: best.count,
-        tries,
-        over: tries > budget,
-    }
-}
-
-// The last stage: all common ports, and none are no header. It adds no try.
-fn last(ports: u8) -> Found
-    ensures { λ r. ⌜ r ≡ lastFound ports ⌝ }
-{
-    let mut words = [0u8; 8];
-    words[7] = ports;
-    Found {
-        words,
-        count: u8::count_ones(ports),
-        tries: 0,
-        over: false,
-    }
-}
-
-fn over_budget() -> Found
-    ensures { λ r. ⌜ r ≡ beyondFound ⌝ }
-{
-    Found {
-        words: [0; 8],
-        count: 0,
-        tries: 0,
-        over: true,
-    }
-}
-
-// The wider of the header kept and that of the word w before the rest; of equals the one kept.
-fn wider(kept: Found, rest: Found, w: u8, left: usize) -> Found
-    requires { ⌜ (1 ≤ left) × (left ≤ 8) × (rest .count ≤ 2097152) ⌝ }
-    ensures { λ r. ⌜ r ≡ widerFound kept rest w left ⌝ }
-{
-    let count = rest.count * u8::count_ones(w);
-    if count <= kept.count {
-        return kept;
-    }
-    let mut words = rest.words;
-    words[8 - left] = w;
-    Found {
-        words,
-        count,
-        tries: 0,
-        over: false,
-    }
 }
 
 // The least choice among the ports above w, which is 0 or one of them; or 256. The bits outside the ports carry the added one on to the next port.
@@ -429,22 +324,6 @@ fn join(sets: &[u64; 8], w: u8) -> u64
         p += 1;
     }
     set
-}
-
-// Writes the last n of the eight words, then zeros up to the eighth byte.
-fn write(words: [u8; 8], n: usize, out: &mut [u8])
-    requires { ⌜ (n ≤ 8) × (8 ≤ length (now out)) ⌝ }
-    ensures { λ r. ⌜ now (out .exit) ≡ drop (8 - n) words ++ (replicate (8 - n) 0 ++ drop 8 (now (out .entry))) ⌝ }
-{
-    let mut i = 0;
-    while i < 8 {
-        if i < n {
-            out[i] = words[8 - n + i];
-        } else {
-            out[i] = 0;
-        }
-        i += 1;
-    }
 }
 
 fn wide(x: u8) -> usize

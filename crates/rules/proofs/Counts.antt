@@ -1,4 +1,4 @@
--- Counts and sums over the numbers below a bound.
+-- Counts and sums over the numbers below a bound. All go by induction on the bound: a number more adds its own part and changes no other.
 -- Assumes nothing.
 use Prim.Native.Nat.{ℕ, zero, suc, _+_, _*_, _≤_, _<_, zero-le}
 use native.Mathlib.Nat.{le-refl, le-trans, le-of-eq, le-of-suc-le-suc, le-add-right, eq-or-lt-of-le, not-suc-le-zero}

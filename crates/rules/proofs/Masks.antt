@@ -1,4 +1,5 @@
--- Which switches lie on a shortest way, and that `maskOf` is the mask.
+-- Which switches lie on a shortest way, and that `maskOf` is the mask. Cut at a switch, a shortest list is two shortest lists, so the two distances
+-- add up; and two that add up join to one.
 -- Assumes nothing.
 use Prim.Native.Nat.{ℕ, zero, suc, _-_, _^_, _≤_, _<_, zero-le, suc-le-suc}
 use native.Mathlib.Nat.{suc-inj}

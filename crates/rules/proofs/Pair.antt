@@ -1,4 +1,5 @@
--- A pair: the header test and the header that is issued, from the switch of the source.
+-- A pair: the header test and the header that is issued, from the switch of the source. The set that holds this switch alone permits what the
+-- switch does, so the laws of `Search` say it of the pair.
 -- Assumes nothing.
 use Prim.Native.Nat.{ℕ, _^_, _<_}
 use native.Mathlib.Omega.{arith}

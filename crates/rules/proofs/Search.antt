@@ -1,4 +1,5 @@
--- Reached sets as numbers: what `reach`, `common` and `choice` say of them, the test and the search for the widest header.
+-- Reached sets as numbers: what `reach`, `common` and `choice` say of them, the test and the search for the widest header. A word goes right from
+-- every switch of a set exactly where it is a choice among their common ports, so stage after stage needs the set alone.
 -- Assumes nothing.
 use Prim.Native.Nat.{ℕ, zero, suc, _≤_, _<_}
 use native.Mathlib.Nat.{le-refl, le-trans, le-of-eq, lt-of-not-le, lt-of-le-of-lt, suc-inj}

@@ -1,4 +1,4 @@
--- Laws of the sets of `Sets`: which members a set has, and when two sets are one number.
+-- Laws of the sets of `Sets`: which members a set has, and when two sets are one number. A number is its binary digits, and a member is a digit 1.
 -- Assumes nothing.
 use Prim.Native.Nat.{ℕ, zero, suc, _+_, _*_, _-_, _/_, _%_, _^_, _≤_, _<_, suc-le-suc, zero-le, min, max}
 use native.Mathlib.Nat.{le-antisymm, div-one, eq-or-lt-of-le, suc-inj, add-comm, le-refl, not-suc-le-zero, le-of-suc-le-suc, lt-of-lt-of-le, zero-min, zero-max, zero-lt-suc, lt-of-not-le}

@@ -2,9 +2,10 @@
 -- header issue over fields promise. Assumes nothing.
 --
 --   two b i             the two-byte number at offset i
---   Field b tag n i     a whole field of this tag and length stands at offset i
+--   Field b tag n i     a whole field of this tag and length stands at offset i; Row: tag 1; Pair: tag 2
 --   Upto b z k p i      k fields of tag 1 and then p of tag 2 stand whole at the start, and end at offset i
 --   Next b z k p i      a field that may follow them stands at i
+--   badField, badRow    refusal 12, of the field reader and of the C call
 --   Holds b k t         t begins with the entries of the first k fields
 --   Filled z b out r o  the promise of the field reader          Loaded z b a d out r o   that of header issue over the fields of tag 1
 use Prim.Native.Nat.{ℕ, _+_, _*_, _/_, _%_, _≤_, _<_}
@@ -19,9 +20,11 @@ use Rattle.rules.specs.Refusals.{Refusal, Says, tooShort}
 use Rattle.rules.specs.Promise.{Blank, Issued}
 
 module _ (b : List ℕ) where
+  -- 01: "all numbers most significant byte first"
   abbrev pub two : ℕ → ℕ
   two i = 256 * getD b i 0 + getD b (i + 1) 0
 
+  -- 01: "one-byte tag, two-byte length, value"
   pub record Field (tag n i : ℕ) : Type 0 where
     pub tagged : getD b i 0 ≡ tag
     pub long : two (i + 1) ≡ n
@@ -43,6 +46,7 @@ module _ (b : List ℕ) where
   Holds k t = (i : ℕ) → i < 8 * k → getD t i 0 ≡ two (19 * (i / 8) + 3 + 2 * (i % 8))
 
   module _ (z : Sizes) where
+    -- the fields before the first bad one: tag 1 at most 64 times, and then tag 2
     pub record Upto (k p i : ℕ) : Type 0 where
       pub few : k ≤ z .most
       pub rows : (j : ℕ) → j < k → Row (offset j 0)

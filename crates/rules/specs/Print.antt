@@ -33,9 +33,11 @@ unfoldable pub digits : ℕ → ℕ → List ℕ
 digits zero n = digit n ∷ []
 digits (suc k) n = let r = digits k (n / 10) ++ (digit (n % 10) ∷ []) in cond (ltb n 10) (digit n ∷ []) r
 
+-- 01: "Other fields are decimal"
 unfoldable pub decimal : ℕ → List ℕ
 decimal n = digits n n
 
+-- 01: "two capital hexadecimal digits each"
 unfoldable pub hex : ℕ → List ℕ
 hex w = digit (w / 16) ∷ digit (w % 16) ∷ []
 
@@ -58,12 +60,15 @@ unfoldable pub line : ℕ → ℕ → Answer → List ℕ → List ℕ
 line a d r ws =
     ended (spaced (decimal a ∷ decimal d ∷ decimal (r .number) ∷ decimal (r .distance) ∷ decimal (r .count) ∷ decimal (r .tries) ∷ shown r ws))
 
+-- 01: "the heading shown below"
 unfoldable pub heading : List ℕ
 heading = ended (ascii "src dst ans dist count tries words")
 
+-- 01: "the single line `input too long`"
 unfoldable pub tooLongText : List ℕ
 tooLongText = ended (ascii "input too long")
 
+-- 01: "only `bad field at ` and the offset in decimal"
 unfoldable pub badFieldText : ℕ → List ℕ
 badFieldText q = ended (ascii "bad field at " ++ decimal q)
 

@@ -27,6 +27,7 @@ pub record Blank (r : Answer) : Type 0 where
   pub tries : r .tries ≡ 0
 
 module _ (z : Sizes) (t : List ℕ) where
+  -- 01: refusals 1 to 3, "given exactly when", each with its place; "On success the number is 0 and the place is 0."
   pub record Judged (r : Judgement) : Type 0 where
     pub answer : Says (ofTable z t) (r .number) (r .place)
 

@@ -1,11 +1,12 @@
 -- A wiring table: what its entries mean, the network that it is, its faults, and where a processor stands. Assumes nothing.
 --
 --   Sizes            the largest number of switches, the entry of processor 0, the number of processors
---   kind z n e       what the entry e is in a table of n switches
+--   house, noLink    the sizes of 01, and its entry for no link
+--   kind z n e       what the entry e is in a table of n switches; leads: where such an entry leads; kindAt z t i: entry i of a table
 --   farOf z t        the table as a network: eight entries for each switch, switch 0 first, port 0 first
 --   WrongLength, BadAt, Again      the faults of refusals 1, 2 and 3
 --   Sound z t        the table has none of them
---   Stands z t a s   processor a stands at a port of switch s
+--   Stands z t a s   processor a stands at a port of switch s; Attached z t a: at some
 use Prim.Native.Nat.{ℕ, _+_, _*_, _-_, _/_, _%_, _<_}
 use mathlib.Core.Path.{_≡_}
 use mathlib.Core.Logic.{_⊎_}
@@ -37,16 +38,19 @@ kind z n e =
     (cond (leb (z .first) e && ltb e (z .first + z .nodes)) (Node (e - z .first))
     (cond (eqb e noLink) Nothing Bad))
 
+-- 01: "a link to that switch", "processor 0 to 511", "no link". A bad entry leads nowhere; refusal 2 is given for it.
 unfoldable pub leads : Entry → Far
 leads (Switch s) = switch s
 leads (Node a) = node a
 leads Nothing = nothing
 leads Bad = nothing
 
+-- 01: "eight for each switch"
 unfoldable pub switches : List ℕ → ℕ
 switches t = length t / 8
 
 module _ (z : Sizes) (t : List ℕ) where
+  -- 01: "With N switches, each entry is one of these"
   unfoldable pub kindAt : ℕ → Entry
   kindAt i = kind z (switches t) (getD t i noLink)
 
@@ -83,5 +87,6 @@ module _ (z : Sizes) (t : List ℕ) where
     pub port : ℕ
     pub there : farOf s port ≡ node a
 
+  -- 01, refusal 4: "a named processor isn't attached"
   abbrev pub Attached : ℕ → Type 0
   Attached a = (s : ℕ) × Stands a s

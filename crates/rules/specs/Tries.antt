@@ -17,14 +17,17 @@ use Rattle.rules.specs.Net.{Far, switch, node, nothing}
 abbrev pub limit : ℕ
 limit = 65536
 
+-- a port links to switch t
 unfoldable pub isSwitch : ℕ → Far → Bool
 isSwitch t (switch s) = eqb s t
 isSwitch t (node n) = false
 isSwitch t nothing = false
 
+-- 01: "Each nonempty choice among those ports"
 unfoldable pub choice : ℕ → ℕ → Bool
 choice w c = ltb 0 w && within w c
 
+-- 01: "the ports common to the masks of all switches in the set"
 unfoldable pub common : ℕ → (ℕ → ℕ) → ℕ → ℕ
 common size mask m = setOf 8 (λ p. all size (λ s. not (has s m) || has p (mask s)))
 
@@ -33,6 +36,7 @@ module _ (far : ℕ → ℕ → Far) (size : ℕ) where
   unfoldable pub reaches : ℕ → (ℕ → ℕ) → ℕ → Bool
   reaches m word t = any size (λ s. has s m && any 8 (λ p. has p (word s) && isSwitch t (far s p)))
 
+  -- 01: "the set it reaches"
   unfoldable pub reach : ℕ → ℕ → ℕ
   reach m w = setOf size (reaches m (λ s. w))
 

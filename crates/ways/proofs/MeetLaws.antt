@@ -1,6 +1,5 @@
 -- How the search meets the target: the first switch in its order at which the target stands is at the distance, since the order goes
--- from near to far; where none has it, no list leads there. K5 (layers of 64-bit sets in place of the queue) replaces QueueLaws, SearchCode
--- and the proofs of expand and search_from; `Searched`, and so all here and above, stays. Assumes nothing.
+-- from near to far; where none has it, no list leads there. Assumes nothing.
 use Prim.Native.Nat.{ℕ, zero, suc, _*_, _/_, _≤_, _<_}
 use native.Mathlib.Decide.{decLe}
 use native.Mathlib.Omega.{arith}

@@ -100,7 +100,7 @@ fn first_again(table: &[u16]) -> usize
         if let Entry::Node(_) = entry(x, n) {
             let mut j = 0;
             while j < i {
-                let next = few(i - j);
+                let next = block(i - j);
                 if among(table, j, next, x) {
                     break 'scan i;
                 }
@@ -112,8 +112,8 @@ fn first_again(table: &[u16]) -> usize
     at
 }
 
-// Some of what is left, 64 at most.
-fn few(left: usize) -> usize
+// The length of the next block of the entries that are left: 64 at most.
+fn block(left: usize) -> usize
     requires { ⌜ 1 ≤ left ⌝ }
     ensures { λ r. ⌜ (1 ≤ r) × (r ≤ left) ⌝ }
 {
@@ -123,7 +123,7 @@ fn few(left: usize) -> usize
     64
 }
 
-// Whether one of the n entries from j on is x. All are looked at, and so many at once.
+// Whether one of the n entries from j on is x. There is no early exit, so that many are compared at once.
 fn among(table: &[u16], j: usize, n: usize, x: u16) -> bool
     requires { ⌜ j + n ≤ length (now table) ⌝ }
     ensures { λ r. ⌜ r ≡ any n (λ k. eqb (getD (now (table .entry)) (j + k) 0) x) ⌝ }

@@ -64,7 +64,7 @@ fn all_masks() {
     masked(b"masks C 0 to 8:", &C, 0, 8, 9);
 }
 
-// A with switch 0 naming itself and a third cable to switch 2.
+// A with switch 0 naming itself and a second cable to switch 2.
 fn self_link() {
     let mut t = A;
     t[6] = 0;

@@ -4,33 +4,35 @@
 -- the words left, and what is left of 256. Assumes nothing.
 use Prim.Native.Nat.{ℕ, _+_, _-_, _<_}
 use native.Mathlib.Omega.{arith}
-use mathlib.Core.Path.{_≡_, refl, _∙_}
+use mathlib.Core.Path.{_≡_, refl, sym, _∙_}
 use mathlib.Core.Logic.{⊎-elim}
 use borrow.Author.Needs.{needs}
 use borrow.Fn.Kinds.{In}
 use borrow.Fn.PlainCycle.{Measures, is, falls, and}
-use Rattle.header.specs.declared.Found.{Found}
-use Rattle.header.specs.Found.{widerFound, nextChoice}
+use Rattle.found.specs.declared.Found.{Found}
+use Rattle.found.specs.Found.{widerFound}
+use Rattle.header.specs.Search.{nextChoice}
+use Rattle.found.proofs.Laws.{is-kept}
 use Rattle.header.proofs.ChoiceLaws.{none-part, choice-part}
 use Rattle.header.proofs.KeptLaws.{nothing-kept, gives, found-kept, recalled-found, recalled-kept}
 use Rattle.header.proofs.WidestLaws.{next-is}
-use Rattle.header.proofs.Searching.{Known, Search, Memory, held-same, Finds, last-stage, start, ended, full, deeper, fits, beyond, taken}
+use Rattle.header.proofs.Searching.{Known, Search, Memory, held-same, Finds, last-stage, start, ended, full, deeper, beyond, taken}
 use Rattle.header.proofs.seek.Reads as seek
 use Rattle.header.proofs.seek.Kinds as seek-kinds
 use Rattle.header.proofs.+seek.Lts-seek as seek-lts
-use Rattle.header.proofs.over_budget.Reads as over-budget-reads
+use Rattle.found.proofs.over_budget.Reads as over-budget-reads
 use Rattle.header.proofs.byte.Reads as byte-reads
 use Rattle.header.proofs.common_of.Reads as common-of-reads
 use Rattle.header.proofs.grouped.Reads as grouped-reads
 use Rattle.header.proofs.join.Reads as join-reads
-use Rattle.header.proofs.keep.Reads as keep-reads
-use Rattle.header.proofs.last.Reads as last-reads
+use Rattle.found.proofs.keep.Reads as keep-reads
+use Rattle.found.proofs.last.Reads as last-reads
 use Rattle.header.proofs.next_choice.Reads as next-choice-reads
-use Rattle.header.proofs.none_kept.Reads as none-kept-reads
-use Rattle.header.proofs.must_search.Reads as must-search-reads
-use Rattle.header.proofs.recalled.Reads as recalled-reads
-use Rattle.header.proofs.total.Reads as total-reads
-use Rattle.header.proofs.wider.Reads as wider-reads
+use Rattle.found.proofs.none_kept.Reads as none-kept-reads
+use Rattle.found.proofs.must_search.Reads as must-search-reads
+use Rattle.found.proofs.recalled.Reads as recalled-reads
+use Rattle.found.proofs.total.Reads as total-reads
+use Rattle.found.proofs.wider.Reads as wider-reads
 use Rattle.header.proofs.+seek.{statement}
 use Rattle.header.proofs.+seek.Tie.{close}
 
@@ -76,7 +78,7 @@ rest-is t c =
     let u = o .before .before .before .before .before .before .loop in
     let k = c .before .if3 in
     ⊎-elim (λ w. recalled-found _ _ _ _ _ _ _ (w .1 .ensures .is) (k .kept) (w .4) (c .recalled .result) (c .recalled .ensures))
-    (λ w. recalled-kept _ _ _ _ _ _ (u .kept) (u .inv .1 .0) (o .must-search .ensures (w .0 .left)) (k .kept) (w .1) (c .recalled .result) (c .recalled .ensures))
+    (λ w. recalled-kept _ _ _ _ _ _ (u .kept) (u .inv .1 .0) (is-kept (u .kept) (o .before .join .result) (sym (o .must-search .ensures) ∙ w .0 .left)) (k .kept) (w .1) (c .recalled .result) (c .recalled .ensures))
     (k .came)
 
 -- and it is kept
@@ -178,15 +180,6 @@ add-tries-2 t c =
     let u = took t c (widerFound (loop .loop .best) r b (s .args .left)) (nextChoice (loop .loop .w + 1) p) refl refl in
     omega (arith, u .in-budget, s .fits .budget)
 
-wider-requires : (t : ℕ) → seek-lts.Need-wider-requires (calls t) (seek-at t) seek.Post Inv-loop μ-loop
-wider-requires t c κs =
-    let j = c .before .before .before .before .before in
-    let b = j .before .before .byte in
-    let turn = j .before .before .before .before in
-    let u = turn .before .loop in
-    let r = c .before .before in
-    fits _ _ _ _ _ _ _ (known t (turn .before)) (u .w) (b .result) (j .join .result) (u .inv .0 .chosen (turn .loop-test .taken)) (b .ensures) (j .join .ensures) (u .tries) (r .recalled .result) (rest-is t r)
-
 next-choice-requires-2 : (t : ℕ) → seek-lts.Need-next-choice-requires-2 (calls t) (seek-at t) seek.Post Inv-loop μ-loop
 next-choice-requires-2 t c κs =
     let turn = c .before .before .before .before .before .before .before .before .before .before in
@@ -239,7 +232,7 @@ pub +seek-spec : {M : Type 1} → statement M
     (returns-3 t)
     (add-tries t)
     (add-tries-2 t)
-    (wider-requires t)
+    (λ c κs. search needs)
     (next-choice-requires-2 t)
     (loop-less t)
     (λ c. (took t (c .before .before) (c .before .wider .result) (c .next-choice2 .result) (c .before .wider .ensures) (c .next-choice2 .ensures), kept-on t (c .before .before .before .before .before)))

@@ -5,8 +5,9 @@ use mathlib.Core.Logic.{⊎-elim}
 use borrow.Author.Needs.{needs}
 use lib.ListN.{replicate}
 use Rattle.rules.specs.Table.{house, farOf, switches}
-use Rattle.header.specs.Found.{singles}
-use Rattle.header.proofs.StoreLaws.{Stored, stored-start, port-followed, port-left, ports-all}
+use Rattle.found.proofs.StoreLaws.{Stored, stored-start}
+use Rattle.header.specs.Search.{singles}
+use Rattle.header.proofs.StoreLaws.{port-followed, port-left, ports-all}
 use Rattle.header.proofs.by_port.Statement.{statement}
 use Rattle.header.proofs.by_port.Tie as tie
 

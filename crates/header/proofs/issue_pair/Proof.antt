@@ -1,6 +1,7 @@
 -- `header::issue_pair` goes down the refusals of a pair, and writes what the search found. Assumes nothing.
-use mathlib.Core.Path.{refl}
+use mathlib.Core.Path.{refl, _∙_}
 use borrow.Author.Needs.{needs}
+use Rattle.found.proofs.Laws.{written-over}
 use Rattle.header.proofs.Opened.{opened, home-small, start-searches, few-hops}
 use Rattle.header.proofs.Issued.{issue-none, issue-short, issue-over, issue-found}
 use Rattle.header.proofs.issue_pair.Statement.{statement}
@@ -35,14 +36,20 @@ returns-3 c =
     issue-over _ _ _ (c .before .before .before .before .before .before .before .before .before .before .mask-pair .ensures) (c .before .before .before .before .before .before .before .if1 .left) (c .before .before .before .before .wide .ensures) (c .before .before .widest .ensures) _ (c .before .before .before .before .before .before .if2 .left) (c .before .if3 .taken) (c .refused2 .ensures)
 
 write-requires : tie.Need-write-requires
-write-requires c κs = (few-hops (opened _ _ _ (c .before .before .before .before .before .before .before .before .before .before .before .mask-pair .ensures) (c .before .before .before .before .before .before .before .before .if1 .left)) (c .before .before .before .before .before .wide .ensures), c .before .before .before .before .before .before .before .if2 .left)
+write-requires c κs = search needs
 
 same-length : tie.Need-same-length
 same-length c = search needs
 
 returns-4 : tie.Need-returns-4
 returns-4 c =
-    issue-found _ _ _ (c .before .before .before .before .before .before .before .before .before .before .before .before .before .before .mask-pair .ensures) (c .before .before .before .before .before .before .before .before .before .before .before .if1 .left) (c .before .before .before .before .before .before .before .before .wide .ensures) (c .before .before .before .before .before .before .widest .ensures) _ (c .before .before .before .before .before .before .before .before .before .before .if2 .left) (c .before .before .before .before .before .if3 .left) refl (c .before .before .write .ensures)
+    let w = c .before .before in
+    let short = w .before .before .before .before .before .before .before .before in
+    let wide = w .before .before .before .before .before .before in
+    let p = short .before .before .before .before .mask-pair .ensures in
+    let z = short .before .if1 .left in
+    issue-found _ _ _ p z (wide .wide .ensures) (w .before .before .before .before .widest .ensures) _ (short .if2 .left) (w .before .before .before .if3 .left) refl
+    (w .write .ensures ∙ written-over _ _ _ (short .if2 .left) (few-hops (opened _ _ _ p z) (wide .wide .ensures)))
 
 pub issue-pair-spec : {M : Type 1} → statement M
 issue-pair-spec =

@@ -4,7 +4,7 @@ use native.Mathlib.Omega.{arith}
 use mathlib.Core.Path.{_≡_, _∙_, subst}
 use mathlib.Core.Logic.{⊎-elim}
 use borrow.Author.Needs.{needs}
-use Rattle.header.specs.Found.{joined}
+use Rattle.header.specs.Search.{joined}
 use Rattle.header.proofs.LeafLaws.{joined-in, joined-out}
 use Rattle.header.proofs.join.Statement.{statement}
 use Rattle.header.proofs.join.Tie as tie

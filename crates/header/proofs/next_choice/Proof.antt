@@ -1,4 +1,4 @@
--- `header::next_choice` meets its contract. Assumes nothing.
+-- `header::next_choice` meets its contract: where w is not the last choice, the step of `ChoiceLaws` leads to the next. Assumes nothing.
 use Prim.Native.Nat.{ℕ, _+_, _-_}
 use native.Mathlib.Omega.{arith}
 use mathlib.Core.Path.{sym, ap, _∙_}

@@ -1,4 +1,4 @@
--- `routes::main` meets its contract: what it reads and what it writes are parts of its buffers. Assumes nothing.
+-- `routes::main` is safe: what it reads and what it writes are parts of its buffers. Assumes nothing.
 use Rattle.report.proofs.ReportLaws.{reported-within}
 use borrow.Author.Needs.{needs}
 use Rattle.routes.proofs.main.Statement.{statement}

@@ -42,17 +42,17 @@ enum-told c = search needs
 loop-holds : tie.Need-loop-holds Inv-loop μ-loop Inv-scan μ-scan
 loop-holds c = search needs
 
-sub-few : tie.Need-sub-few Inv-loop μ-loop Inv-scan μ-scan
-sub-few c = search needs
+sub-block : tie.Need-sub-block Inv-loop μ-loop Inv-scan μ-scan
+sub-block c = search needs
 
-few-requires : tie.Need-few-requires Inv-loop μ-loop Inv-scan μ-scan
-few-requires c κs = search needs
+block-requires : tie.Need-block-requires Inv-loop μ-loop Inv-scan μ-scan
+block-requires c κs = search needs
 
 among-requires : tie.Need-among-requires Inv-loop μ-loop Inv-scan μ-scan
-among-requires c κs = let l = c .few .ensures .1 in omega (arith, c .before .before .before .before .before .before .before .before .scan .inv .bound)
+among-requires c κs = let l = c .block .ensures .1 in omega (arith, c .before .before .before .before .before .before .before .before .scan .inv .bound)
 
 add-j : tie.Need-add-j Inv-loop μ-loop Inv-scan μ-scan
-add-j c = let l = c .before .before .few .ensures .1 in omega (arith, c .before .before .before .before .before .before .before .before .before .before .scan .inv .bound)
+add-j c = let l = c .before .before .block .ensures .1 in omega (arith, c .before .before .before .before .before .before .before .before .before .before .scan .inv .bound)
 
 loop-less : tie.Need-loop-less Inv-loop μ-loop Inv-scan μ-scan
 loop-less c = search needs
@@ -62,7 +62,7 @@ loop-again c =
     let at = c .before .before .before .before .before .before .before .before .before .before in
     let t = at .before .before .args .table .now in
     let u = c .before .before .before .before .loop in
-    (search needs, among-none t (u .j) (c .before .before .few .result) (getD t (at .scan .i) 0) (sym (c .before .among .ensures) ∙ c .if2 .left) (u .inv .1))
+    (search needs, among-none t (u .j) (c .before .before .block .result) (getD t (at .scan .i) 0) (sym (c .before .among .ensures) ∙ c .if2 .left) (u .inv .1))
 
 add-i : tie.Need-add-i Inv-loop μ-loop Inv-scan μ-scan
 add-i c = search needs
@@ -86,9 +86,9 @@ returns-2 c =
     let told = c .before .before .before .before .before .before in
     let at = told .before .before .before .before in
     let t = at .before .before .args .table .now in
-    let hit = among-some t (c .before .before .before .before .loop .j) (c .before .before .few .result) (getD t (at .scan .i) 0) (sym (c .before .among .ensures) ∙ c .if2 .taken) in
+    let hit = among-some t (c .before .before .before .before .loop .j) (c .before .before .block .result) (getD t (at .scan .i) 0) (sym (c .before .among .ensures) ∙ c .if2 .taken) in
     passed-hit (at .scan .inv)
-    (again-told _ _ (omega arith) (told .before .entry .ensures) (told .match .keys1) (hit .0) (let l = hit .1 in let k = c .before .before .few .ensures .1 in omega arith) (hit .2))
+    (again-told _ _ (omega arith) (told .before .entry .ensures) (told .match .keys1) (hit .0) (let l = hit .1 in let k = c .before .before .block .ensures .1 in omega arith) (hit .2))
 
 pub first-again-spec : {M : Type 1} → statement M
 first-again-spec =
@@ -104,8 +104,8 @@ first-again-spec =
     entry-requires
     enum-told
     loop-holds
-    sub-few
-    few-requires
+    sub-block
+    block-requires
     among-requires
     add-j
     loop-less

@@ -1,10 +1,10 @@
--- `header::none_kept` meets its contract: nothing is kept where what is kept is over. Assumes nothing.
+-- `found::none_kept` meets its contract: nothing is kept where what is kept is over. Assumes nothing.
 use mathlib.Core.Path.{ap}
 use borrow.Author.Needs.{needs}
-use Rattle.header.specs.declared.Found.{Found}
-use Rattle.header.specs.declared.Kept.{Kept}
-use Rattle.header.proofs.none_kept.Statement.{statement}
-use Rattle.header.proofs.none_kept.Tie as tie
+use Rattle.found.specs.declared.Found.{Found}
+use Rattle.found.specs.declared.Kept.{Kept}
+use Rattle.found.proofs.none_kept.Statement.{statement}
+use Rattle.found.proofs.none_kept.Tie as tie
 
 over-budget-requires : tie.Need-over-budget-requires
 over-budget-requires c κs = search needs

@@ -2,26 +2,25 @@
 --
 --   Stages t m, Searches t m n     a set of switches of a table of at most 64; and from 1 to 8 words to find
 --   placed ws                      the words at the end of eight bytes
---   foundOf .. m n k               the widest header of n words from the set m within k tries: 01's rules `best` and `tries`
+--   foundOf .. m n k               the widest header of n words from the set m within k tries: the twin `best`, and 01's `tries`
 --   Recalls .. n k                 what is kept of a search for n words: it is what any search from its set finds that is not over
 --   Gives .. m n k r               r is what the search from m finds, and what is kept of the stage after it
---   lastFound, widerFound, beyondFound     the last stage; the wider of two; tries beyond the budget
 --   nextChoice w c                 the least choice among c that is not below w, or 256
 --   singles, joined                the sets that the ports of a word reach alone; those of a word's ports together
 --   Alike a b                      two sets that the search does not tell apart
 --   Grouped m c sets               for each port a set like the one that it reaches alone from m
-use Prim.Native.Nat.{ℕ, zero, suc, _+_, _-_, _*_, _^_, _≤_, _<_}
+use Prim.Native.Nat.{ℕ, zero, suc, _+_, _-_, _^_, _≤_, _<_}
 use mathlib.Core.Path.{_≡_}
-use mathlib.Core.Bool.{true, false, cond}
+use mathlib.Core.Bool.{false, cond}
 use mathlib.Core.List.{List, _++_}
 use mathlib.Core.Option.{Option, none, some}
-use lib.ListN.{length, getD, set, replicate}
-use lib.Dec.{T, ltb, leb}
+use lib.ListN.{length, getD, replicate}
+use lib.Dec.{T, ltb}
 use lib.Bits.{bitOr}
-use lib.Count.{ones}
-use Rattle.header.specs.declared.Found.{Found}
-use Rattle.header.specs.declared.Kept.{Kept}
-use Rattle.header.specs.declared.Sought.{Sought}
+use Rattle.found.specs.declared.Found.{Found}
+use Rattle.found.specs.declared.Kept.{Kept}
+use Rattle.found.specs.declared.Sought.{Sought}
+use Rattle.found.specs.Found.{overBudget}
 use Rattle.rules.specs.Sets.{has, least, tabulate}
 use Rattle.rules.specs.Net.{Far}
 use Rattle.rules.specs.Header.{permits}
@@ -54,12 +53,9 @@ countIn (some ws) = permits ws
 unfoldable pub found : Option (List ℕ) → ℕ → Found
 found h k = record { words = wordsIn h; count = countIn h; tries = k; over = false }
 
-abbrev pub beyondFound : Found
-beyondFound = record { words = replicate 8 0; count = 0; tries = 0; over = true }
-
 unfoldable pub foundOf : (ℕ → ℕ → Far) → ℕ → (ℕ → ℕ) → ℕ → ℕ → ℕ → Found
 foundOf far size mask m n budget =
-    let k = tries far size mask (n - 1) m in cond (ltb budget k) beyondFound (found (best far size mask n m) k)
+    let k = tries far size mask (n - 1) m in cond (ltb budget k) overBudget (found (best far size mask n m) k)
 
 -- ---- what is kept of it
 
@@ -72,15 +68,6 @@ module _ (far : ℕ → ℕ → Far) (size : ℕ) (mask : ℕ → ℕ) where
     pub keeps : Recalls (n - 1) (r .next)
 
 -- ---- its pieces
-
--- the last stage takes all common ports, and none are no header
-abbrev pub lastFound : ℕ → Found
-lastFound c = record { words = set (replicate 8 0) 7 c; count = ones c; tries = 0; over = false }
-
-unfoldable pub widerFound : Found → Found → ℕ → ℕ → Found
-widerFound kept rest w n =
-    cond (leb (rest .count * ones w) (kept .count)) kept
-    (record { words = set (rest .words) (8 - n) w; count = rest .count * ones w; tries = 0; over = false })
 
 unfoldable pub nextChoice : ℕ → ℕ → ℕ
 nextChoice w c = w + least (256 - w) (λ k. choice (w + k) c)

@@ -1,8 +1,8 @@
--- `header::recalled` meets its contract, which says the two cases of the code. Assumes nothing.
+-- `found::recalled` meets its contract, which says the two cases of the code. Assumes nothing.
 use borrow.Author.Needs.{needs}
 use borrow.Author.Tests.{lt-ltb, le-ltb}
-use Rattle.header.proofs.recalled.Statement.{statement}
-use Rattle.header.proofs.recalled.Tie as tie
+use Rattle.found.proofs.recalled.Statement.{statement}
+use Rattle.found.proofs.recalled.Tie as tie
 
 over-budget-requires : tie.Need-over-budget-requires
 over-budget-requires c κs = search needs
