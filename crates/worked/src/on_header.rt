@@ -1,4 +1,4 @@
-// The worked cases of header issue and the header test.
+// The worked cases of header issue and the header test, a few in each function: what a check takes grows with the square of a function's length.
 use crate::show::answer;
 use crate::show::hex;
 use crate::show::least;
@@ -12,25 +12,41 @@ use rules::Verdict;
 ghost use Prim.Native.Nat.{_<_};
 
 pub(crate) fn run() {
-    issues();
+    issues_of_a();
+    issues_of_b_and_c();
+    issues_of_d();
     lines();
     boards();
     tests();
 }
 
-fn issues() {
+fn issues_of_a() {
     issued(b"A 0 to 2:", &A, 0, 2, 8);
     issued(b"A 2 to 0:", &A, 2, 0, 8);
     issued(b"A 0 to 1:", &A, 0, 1, 8);
+    issues_refused();
+    issues_lent();
+}
+
+fn issues_refused() {
     issued(b"A 3 to 3:", &A, 3, 3, 8);
     issued(b"A 0 to 9:", &A, 0, 9, 8);
+}
+
+fn issues_lent() {
     issued(b"A 0 to 2, no byte lent:", &A, 0, 2, 0);
     issued(b"A 0 to 2, seven bytes lent:", &A, 0, 2, 7);
     issued(b"A 0 to 2, twenty bytes lent:", &A, 0, 2, 20);
+}
+
+fn issues_of_b_and_c() {
     issued(b"B 0 to 1:", &B, 0, 1, 8);
     issued(b"B 1 to 0:", &B, 1, 0, 8);
     issued(b"C 0 to 7:", &C, 0, 7, 8);
     issued(b"C 0 to 8:", &C, 0, 8, 8);
+}
+
+fn issues_of_d() {
     issued(b"D 0 to 1:", &D, 0, 1, 8);
     let mut d = D;
     d[17] = 3;
@@ -38,9 +54,21 @@ fn issues() {
 }
 
 fn tests() {
+    tests_of_three();
+    tests_of_lengths();
+    tests_of_none_and_many();
+    tests_refused();
+    tests_of_b();
+    tested(b"test C 0 to 8, 80:", &C, 0, 8, b"\x80");
+}
+
+fn tests_of_three() {
     tested(b"test A 0 to 2, 10 02 01:", &A, 0, 2, b"\x10\x02\x01");
     tested(b"test A 0 to 2, 20 04 01:", &A, 0, 2, b"\x20\x04\x01");
     tested(b"test A 0 to 2, 30 02 01:", &A, 0, 2, b"\x30\x02\x01");
+}
+
+fn tests_of_lengths() {
     tested(b"test A 0 to 2, 10 02:", &A, 0, 2, b"\x10\x02");
     tested(
         b"test A 0 to 2, 10 02 01 01:",
@@ -50,15 +78,23 @@ fn tests() {
         b"\x10\x02\x01\x01",
     );
     tested(b"test A 0 to 2, 10 00 01:", &A, 0, 2, b"\x10\x00\x01");
+}
+
+fn tests_of_none_and_many() {
     tested(b"test A 0 to 2, no word:", &A, 0, 2, b"");
     let long = [1u8; 300];
     tested(b"test A 0 to 2, 300 words:", &A, 0, 2, &long);
+}
+
+fn tests_refused() {
     tested(b"test A 3 to 3, 01:", &A, 3, 3, b"\x01");
     tested(b"test B 1 to 0, 01:", &B, 1, 0, b"\x01");
+}
+
+fn tests_of_b() {
     tested(b"test B 0 to 1, 10 07 01:", &B, 0, 1, b"\x10\x07\x01");
     tested(b"test B 0 to 1, 30 04 01:", &B, 0, 1, b"\x30\x04\x01");
     tested(b"test B 0 to 1, 30 06 01:", &B, 0, 1, b"\x30\x06\x01");
-    tested(b"test C 0 to 8, 80:", &C, 0, 8, b"\x80");
 }
 
 // A line of switches with 1, 4, 2, 4, 2 and 5 links between neighbours: 65,536 tries; and with one switch more in front 65,537.

@@ -1,4 +1,4 @@
-// The worked cases of judge, distance and mask issue.
+// The worked cases of judge, distance and mask issue, a few in each function.
 use crate::show::answer;
 use crate::show::hex;
 use crate::show::least;
@@ -14,23 +14,37 @@ use networks::C;
 pub(crate) fn run() {
     judges();
     distances();
-    all_masks();
+    masks_of_a();
+    masks_of_b_and_c();
     self_link();
     full_table();
 }
 
 fn judges() {
+    judged_lengths();
+    judged_entries();
+    judged_again();
+}
+
+fn judged_lengths() {
     judged(b"judge A:", &A);
     judged(b"judge of length 0:", &A[..0]);
     judged(b"judge of length 7:", &A[..7]);
     let long = [65535u16; 520];
     judged(b"judge of length 520:", &long);
+}
+
+fn judged_entries() {
     let mut t = A;
     t[0] = 4;
     judged(b"judge with 4 at index 0:", &t);
     t[0] = 1000;
     t[31] = 1512;
     judged(b"judge with 1512 at the last index:", &t);
+}
+
+fn judged_again() {
+    let mut t = A;
     t[31] = 1003;
     judged(b"judge with processor 3 again at the last index:", &t);
     t[31] = 65535;
@@ -44,21 +58,32 @@ fn distances() {
     measured(b"A 0 to 2:", &A, 0, 2);
     measured(b"A 0 to 1:", &A, 0, 1);
     measured(b"A 3 to 3:", &A, 3, 3);
+    distances_unattached();
+    distances_of_b_and_c();
+}
+
+fn distances_unattached() {
     measured(b"A 0 to 9:", &A, 0, 9);
     measured(b"A 512 to 0:", &A, 512, 0);
     measured(b"A 0 to 65535:", &A, 0, 65535);
     measured(b"A 65536 to 2:", &A, 65536, 2);
+}
+
+fn distances_of_b_and_c() {
     measured(b"B 0 to 1:", &B, 0, 1);
     measured(b"B 1 to 0:", &B, 1, 0);
     measured(b"C 0 to 7:", &C, 0, 7);
     measured(b"C 0 to 8:", &C, 0, 8);
 }
 
-fn all_masks() {
+fn masks_of_a() {
     masked(b"masks A 0 to 2:", &A, 0, 2, 4);
     masked(b"masks A 2 to 0, six bytes lent:", &A, 2, 0, 6);
     masked(b"masks A 0 to 2, three bytes lent:", &A, 0, 2, 3);
     masked(b"masks A 3 to 3, no byte lent:", &A, 3, 3, 0);
+}
+
+fn masks_of_b_and_c() {
     masked(b"masks B 0 to 1:", &B, 0, 1, 4);
     masked(b"masks C 0 to 7:", &C, 0, 7, 9);
     masked(b"masks C 0 to 8:", &C, 0, 8, 9);

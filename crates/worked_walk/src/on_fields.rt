@@ -1,4 +1,4 @@
-// The worked cases of the field reader.
+// The worked cases of the field reader, a few in each function.
 use crate::show::half;
 use crate::show::least;
 use crate::show::number;
@@ -15,26 +15,40 @@ pub(crate) fn run() {
     row(&mut f, 19, 3);
     pair(&mut f, 38, 0, 511);
     pair(&mut f, 45, 258, 3);
-    read(b"two rows and two pairs", f, 52, 512);
-    read(b"the same into 600 numbers", f, 52, 600);
-    read(b"the same into 511 numbers", f, 52, 511);
+    whole(f);
     cut(f);
-    damaged(f);
+    damaged_pairs(f);
+    damaged_tags(f);
+    damaged_lengths(f);
     many();
 }
 
-// The first and the last are read into a table that is too short as well: 12 comes before 8.
-fn damaged(from: [u8; 1300]) {
+fn whole(f: [u8; 1300]) {
+    read(b"two rows and two pairs", f, 52, 512);
+    read(b"the same into 600 numbers", f, 52, 600);
+    read(b"the same into 511 numbers", f, 52, 511);
+}
+
+// The first is read into a table that is too short as well: 12 comes before 8.
+fn damaged_pairs(from: [u8; 1300]) {
     let mut f = from;
     f[51] = 1;
     read(b"a longer last pair", f, 53, 511);
     f[52] = 1;
     read(b"a tag 1 after a tag 2", f, 71, 512);
+}
+
+fn damaged_tags(from: [u8; 1300]) {
+    let mut f = from;
     f[0] = 0;
     read(b"tag 0", f, 52, 512);
     f[0] = 255;
     read(b"tag 255", f, 52, 512);
-    f[0] = 1;
+}
+
+// The last is read into a table that is too short as well.
+fn damaged_lengths(from: [u8; 1300]) {
+    let mut f = from;
     f[2] = 15;
     read(b"length 15", f, 52, 512);
     f[2] = 17;
@@ -146,6 +160,13 @@ fn read(what: &[u8], f: [u8; 1300], len: usize, lent: usize) {
     number(wide(r.place));
     number(small(r.switches));
     number(wide(r.pairs));
+    entries(t);
+    number(half(ends.source));
+    number(half(ends.target));
+    say(b"\n");
+}
+
+fn entries(t: [u16; 600]) {
     say(b" :");
     number(half(t[0]));
     number(half(t[7]));
@@ -156,7 +177,4 @@ fn read(what: &[u8], f: [u8; 1300], len: usize, lent: usize) {
     number(half(t[512]));
     number(half(t[599]));
     say(b" :");
-    number(half(ends.source));
-    number(half(ends.target));
-    say(b"\n");
 }

@@ -1,4 +1,4 @@
-// The worked cases of the walk.
+// The worked cases of the walk, a few in each function.
 use crate::show::half;
 use crate::show::number;
 use crate::show::say;
@@ -10,9 +10,12 @@ use rules::Ending;
 
 pub(crate) fn run() {
     endings();
+    delivered();
     at_a_switch();
     refusals();
-    other_tables();
+    no_choice();
+    on_b();
+    self_link();
     all_choices();
 }
 
@@ -38,6 +41,9 @@ fn endings() {
         b"\x10\x02",
         b"\x00\x00",
     );
+}
+
+fn delivered() {
     walked(
         b"A from 0, 10 02 01 with 9 9 9 9:",
         &A,
@@ -77,12 +83,16 @@ fn refusals() {
         b"\x10\x02\x01",
         b"\x00\x00",
     );
+}
+
+fn no_choice() {
+    let nine = b"\x10\x02\x01\x01\x01\x01\x01\x01\x01";
     walked(b"A from 0, nine words with no choice:", &A, 0, nine, b"");
     walked(b"A from 9, nine words with no choice:", &A, 9, nine, b"");
     walked(b"of length 7 from 9:", &A[..7], 9, b"\x10", b"");
 }
 
-fn other_tables() {
+fn on_b() {
     walked(
         b"B from 0, 10 07 01 with 0 1 0:",
         &B,
@@ -97,6 +107,9 @@ fn other_tables() {
         b"\x20\x04\x01",
         b"\x01\x01\x01",
     );
+}
+
+fn self_link() {
     let mut t = A;
     t[6] = 0;
     walked(
