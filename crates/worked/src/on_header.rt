@@ -1,4 +1,4 @@
-// The worked cases of header issue and the header test, a few in each function: what a check takes grows with the square of a function's length.
+// The worked cases of header issue and the header test, a few in each function: what a check takes grows faster than a function's length.
 use crate::show::answer;
 use crate::show::hex;
 use crate::show::least;
