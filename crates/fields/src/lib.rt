@@ -1,4 +1,6 @@
 // The reader of wiring fields. The whole input is judged before the first entry is written.
+#![tactic(auto)]
+
 ghost use Rattle.std.specs.Prelude.{◌≡◌, ◌++◌, ◌+◌, ◌*◌, ◌≤◌, ◌<◌, length, drop};
 ghost use Rattle.rules.specs.Table.{house};
 ghost use Rattle.rules.specs.Fields.{two, Filled};

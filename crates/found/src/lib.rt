@@ -1,10 +1,12 @@
 // What a header search has found from a set of switches: the wider of two headers, what is kept of a set that was searched, the words written out.
+#![tactic(auto)]
+
 ghost use Rattle.std.specs.Prelude.{◌≡◌, true, false, cond, not, ◌||◌, eqb, ltb, set, ◌-◌};
 ghost use Rattle.found.specs.Found.{last_found, over_budget, wider_found, total_found, written};
 
 // The widest header found: its words at the end of the eight, the number of lists it permits, 0 where there is none, and the tries; or
 // that the tries would pass the budget.
-#[derive(Drop)]
+#[derive(Clone, Copy)]
 pub struct Found {
     pub words: [u8; 8],
     pub count: u32,
@@ -13,7 +15,7 @@ pub struct Found {
 }
 
 // What was found from the set that was searched last at a stage; over where nothing is kept.
-#[derive(Drop)]
+#[derive(Clone, Copy)]
 pub struct Kept {
     pub set: u64,
     pub found: Found,

@@ -26,7 +26,7 @@ trailing-least (suc k) n = at (n % 2) refl (trailing-least k (n / 2))
     at : (d : ℕ) → n % 2 ≡ d → Least k (λ s. has s (n / 2)) (count_trailing_zeros k (n / 2)) → Least (suc k) (λ s. has s n) (under d (count_trailing_zeros k (n / 2)))
     at zero e h = record {
       bound = suc-le-suc h.bound;
-      before = λ j. elim j [ zero ↦ λ l t. subst T (has-zero n ∙ ap (λ (x : ℕ). eqb x 1) e) t | suc i ↦ λ l t. h.before i (le_of_suc-le-suc l) (subst T (has-suc i n) t) ];
+      before = λ j. elim j as (λ i. i < suc (count_trailing_zeros k (n / 2)) → T (has i n) → ⊥) [ zero ↦ λ l t. subst T (has-zero n ∙ ap (λ (x : ℕ). eqb x 1) e) t | suc i ↦ λ l t. h.before i (le_of_suc-le-suc l) (subst T (has-suc i n) t) ];
       hit = λ l. subst T (sym (has-suc (count_trailing_zeros k (n / 2)) n)) (h.hit (le_of_suc-le-suc l));
     }
     at (suc d) e h = let o : n % 2 ≡ 1 = omega arith in record {

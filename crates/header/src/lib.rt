@@ -1,4 +1,6 @@
 // The header: the test of any header, the search for the widest one, and its issue. Sets of switches are 64-bit numbers.
+#![tactic(auto)]
+
 ghost use Rattle.std.specs.Prelude.{◌≡◌, true, cond, ◌+◌, ◌-◌, ◌^◌, ◌<◌, get_or};
 ghost use Rattle.rules.specs.Sets.{within};
 ghost use Rattle.rules.specs.Table.{house, switches, far_of};

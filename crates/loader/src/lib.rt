@@ -1,4 +1,6 @@
 // The C library. Each call gives one 64-bit number, packed as include/reedlocket.h says.
+#![tactic(auto)]
+
 ghost use Rattle.std.specs.Prelude.{◌≡◌, ◌<◌, [], ◌∷◌};
 ghost use Rattle.rules.specs.Table.{house};
 ghost use Rattle.rules.specs.Promise.{Measured, Masked, Tested, Issued};

@@ -1,4 +1,5 @@
 // 01's networks A to D as tables, for the programs that run the worked cases.
+#![tactic(auto)]
 
 pub const A: [u16; 32] = [
     1000, 1001, 65535, 65535, 2, 3, 65535, 65535, 1002, 1003, 65535, 65535, 2, 3, 65535, 65535, 0,

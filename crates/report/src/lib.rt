@@ -1,4 +1,6 @@
 // What `routes` prints, written into a lent buffer. A function that puts a text begins at the offset `at` and gives the offset behind it.
+#![tactic(auto)]
+
 ghost use Rattle.std.specs.Prelude.{◌≡◌, [], ◌∷◌, ◌++◌, map, ◌+◌, ◌*◌, ◌≤◌, ◌<◌, length, take};
 ghost use Rattle.rules.specs.Table.{house};
 ghost use Rattle.rules.specs.Promise.{Judged};

@@ -1,4 +1,5 @@
 // The program `routes`: reads wiring fields and pairs from standard input and prints a header for each pair.
+#![tactic(auto)]
 
 // One byte more than an input may have is read, to know one that is too long.
 fn main() {

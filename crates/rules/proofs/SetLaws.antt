@@ -264,7 +264,7 @@ least-is (suc n) f = at (f 0) refl (least-is n (λ k. f (suc k)))
   where
     at : (b : Bool) → f 0 ≡ b → Least n (λ k. f (suc k)) (least n (λ k. f (suc k))) → Least (suc n) f (cond b 0 (suc (least n (λ k. f (suc k)))))
     at true e h = record { bound = zero-le; before = λ j l. absurd (not-suc-le-zero l); hit = λ l. T_true e }
-    at false e h = record { bound = suc-le-suc h.bound; before = λ j. elim j [ zero ↦ λ l t. subst T e t | suc i ↦ λ l t. h.before i (le_of_suc-le-suc l) t ]; hit = λ l. h.hit (le_of_suc-le-suc l) }
+    at false e h = record { bound = suc-le-suc h.bound; before = λ j. elim j as (λ i. i < suc (least n (λ k. f (suc k))) → T (f i) → ⊥) [ zero ↦ λ l t. subst T e t | suc i ↦ λ l t. h.before i (le_of_suc-le-suc l) t ]; hit = λ l. h.hit (le_of_suc-le-suc l) }
 
 pub least-one : {n : ℕ} {f : ℕ → Bool} {j k : ℕ} → Least n f j → Least n f k → j ≡ k
 least-one {n} {f} {j} {k} p q =

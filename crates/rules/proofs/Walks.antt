@@ -73,7 +73,7 @@ module _ (far : ℕ → ℕ → Far) where
     ended-on e p i l k h = record {
       so = (is-hop e p i l).0 h.so;
       words = let a = h.words in omega arith;
-      before = λ j. elim j [ zero ↦ λ _. k | suc x ↦ λ m. h.before x (le_of_suc-le-suc m) ];
+      before = λ j. elim j as (λ x. x < suc i → 0 < get_or (w ∷ ws) x 0) [ zero ↦ λ _. k | suc x ↦ λ m. h.before x (le_of_suc-le-suc m) ];
     }
 
     ended-back : (e : Ending) (p i l : ℕ) → Ended far (w ∷ ws) (c ∷ cs) s e p (suc i) l → Ended far ws cs t e p i l

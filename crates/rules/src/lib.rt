@@ -1,4 +1,5 @@
 // The types of the answers. No function stands here: specs/ says what the words of the papers mean, proofs/ holds the laws.
+#![tactic(auto)]
 
 // The kinds of an entry: a link to a switch, a processor, no link, or none of the three.
 #[derive(Drop)]
@@ -10,7 +11,7 @@ pub enum Entry {
 }
 
 // A refusal of a table: number 0 and place 0 where there is none.
-#[derive(Drop)]
+#[derive(Clone, Copy)]
 pub struct Judgement {
     pub number: u8,
     pub place: usize,

@@ -1,4 +1,6 @@
 // The walk of one packet through chosen ports. One hop is a function of its own; the walk is hops until an ending.
+#![tactic(auto)]
+
 ghost use Rattle.std.specs.Prelude.{◌≡◌, zero, ◌*◌, ◌≤◌, ◌<◌, length};
 ghost use Rattle.rules.specs.Table.{house, switches, far_of};
 ghost use Rattle.rules.specs.Walk.{Walked, port};

@@ -52,13 +52,13 @@ module _ (d : ℕ) (last : Bool) (depth masks : List ℕ) (n : ℕ) where
         rw (q, eq-eqb (get_or depth v 0) (suc n) k) (some-mask (get_or masks i 0) ∙ ap (λ (j : ℕ). ltb 0 (get_or masks j 0)) at)
 
   module _ {e : Entry} where
-    pub ahead-early : {a : ℕ} → e ≡ Node a → not last ≡ true → false ≡ ahead d last depth masks n (leads e)
+    pub ahead-early : {a : ℕ} → e ≡ Node a → last ≡ false → false ≡ ahead d last depth masks n (leads e)
     unfolding ahead leads
-    ahead-early q h = rw (q, not-true last h)
+    ahead-early q h = rw (q, h)
 
-    pub ahead_own : {a b : ℕ} → e ≡ Node a → b ≡ a → not last ≡ false → eqb b d ≡ ahead d last depth masks n (leads e)
+    pub ahead_own : {a b : ℕ} → e ≡ Node a → b ≡ a → last ≡ true → eqb b d ≡ ahead d last depth masks n (leads e)
     unfolding ahead leads
-    ahead_own q k h = rw (q, k, not-false last h)
+    ahead_own q k h = rw (q, k, h)
 
     pub ahead-nothing : e ≡ Nothing → false ≡ ahead d last depth masks n (leads e)
     unfolding ahead leads

@@ -1,5 +1,7 @@
 // The ways of a pair: one search forward from the source's switch gives every switch its depth, so the distance; one pass back over it
 // gives every mask.
+#![tactic(auto)]
+
 ghost use Rattle.std.specs.Prelude.{◌≡◌, ◌+◌, ◌*◌, ◌≤◌, ◌<◌, ◌++◌, length, get_or, take, drop};
 ghost use Rattle.rules.specs.Sets.{least, tabulate};
 ghost use Rattle.rules.specs.Table.{house, leads, far_of, switches};

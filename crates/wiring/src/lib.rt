@@ -1,4 +1,6 @@
 // Reading a wiring table: what an entry is, whether the table is sound, and where a processor stands.
+#![tactic(auto)]
+
 ghost use Rattle.std.specs.Prelude.{◌≡◌, ◌+◌, ◌*◌, ◌≤◌, eqb, length, get_or};
 ghost use Rattle.rules.specs.Sets.{least, any};
 ghost use Rattle.rules.specs.Table.{house, kind, kind_at, switches};
