@@ -1,14 +1,14 @@
 -- What the search needs of these values: a count below 2 ^ 29 is multiplied as it is, and words are written where eight bytes are lent.
 -- Assumes nothing.
-use Prim.Native.Nat.{ℕ, ◌-◌, ◌*◌, ◌%◌, ◌^◌, ◌≤◌, ◌<◌}
+use Prim.Native.Nat.{ℕ, ◌-◌, ◌*◌, ◌^◌, ◌≤◌, ◌<◌}
 use native.Mathlib.Nat.{mod-eq_of_lt}
 use native.Mathlib.Omega.{arith}
-use mathlib.Core.Path.{◌≡◌, refl, ap, ◌∙◌}
+use mathlib.Core.Path.{◌≡◌, refl, ap}
 use mathlib.Core.Bool.{Bool, true, false, cond, not, ◌||◌}
-use mathlib.Core.List.{List, ◌++◌}
+use mathlib.Core.List.{List}
 use borrow.Author.Tests.{le-ltb, lt-ltb}
-use lib.Dec.{T, eqb, ltb, leb, eqb→eq}
-use lib.ListN.{length, set, drop, replicate}
+use lib.Dec.{eqb, leb, eqb→eq}
+use lib.ListN.{length, set}
 use lib.Count.{ones}
 use Rattle.found.specs.declared.Found.{Found}
 use Rattle.found.specs.declared.Kept.{Kept}

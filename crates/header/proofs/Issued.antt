@@ -17,7 +17,7 @@ use Rattle.rules.specs.declared.Verdict.{Verdict}
 use Rattle.rules.specs.declared.Verdict.TheVariants.{Neither, No, Yes}
 use Rattle.ways.specs.declared.Pair.{Pair}
 use Rattle.found.specs.declared.Found.{Found}
-use Rattle.rules.specs.Tries.{limit, tries, chooses}
+use Rattle.rules.specs.Tries.{limit, chooses}
 use Rattle.rules.specs.Run.{best}
 use Rattle.rules.specs.Table.{house, far_of, switches}
 use Rattle.rules.specs.Refusals.{most_hops}

@@ -12,7 +12,6 @@ use lib.ListN.{length, get_or, drop, drop_of_length-le}
 use lib.Seq.{drop-cons}
 use lib.Bits.{bit_and}
 use Rattle.rules.specs.Sets.{within}
-use Rattle.rules.specs.Net.{Far}
 use Rattle.rules.specs.Table.{house, switches, far_of}
 use Rattle.rules.specs.Tries.{common, choice, chooses, reach}
 use Rattle.rules.proofs.Tables.{far_of-wired}

@@ -3,10 +3,6 @@
 use Prim.Native.Nat.{ℕ}
 use mathlib.Core.Path.{◌≡◌, refl}
 use mathlib.Core.List.{List}
-use Rattle.rules.specs.declared.Answer.{Answer}
-use Rattle.rules.specs.declared.TestAnswer.{TestAnswer}
-use Rattle.rules.specs.declared.WalkAnswer.{WalkAnswer}
-use Rattle.rules.specs.declared.FieldAnswer.{FieldAnswer}
 use Rattle.rules.specs.Table.{house}
 use Rattle.rules.specs.Promise.{Measured, Masked, Tested, Issued}
 use Rattle.rules.specs.Walk.{Walked}

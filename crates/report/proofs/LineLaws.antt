@@ -5,26 +5,25 @@ use native.Mathlib.Decide.{ℕ_discrete}
 use native.Mathlib.Omega.{arith}
 use mathlib.Core.Path.{◌≡◌, sym, ap, ap₂, ◌∙◌, subst, subst₂}
 use mathlib.Core.List.{List, [], ◌∷◌, ◌++◌, map, append-nil, append_assoc}
-use lib.ListN.{length, get_or, take, replicate, length-append, length-take}
+use lib.ListN.{length, take, replicate, length-append, length-take}
 use lib.Seq.{length-take-le}
 use Rattle.rules.specs.declared.Judgement.{Judgement}
 use Rattle.rules.specs.declared.Answer.{Answer}
 use Rattle.rules.specs.Table.{house}
 use Rattle.rules.specs.Refusals.{most_hops}
 use Rattle.rules.specs.Promise.{Judged, Issued}
-use Rattle.rules.specs.Print.{decimal, hex, spaced, line, ended}
+use Rattle.rules.specs.Print.{hex, spaced, line, ended}
 use Rattle.rules.specs.Text.{lines}
-use Rattle.rules.specs.RunTable.{judge_of}
 use Rattle.rules.specs.RunPair.{issue_answer, issue_memory}
 use Rattle.rules.specs.RunFields.{pair_line}
 use Rattle.rules.proofs.Kept.{issued-met}
-use Rattle.rules.proofs.Packed.{Bounded, issued-bounded, issued-fits, house-narrow}
+use Rattle.rules.proofs.Packed.{issued-bounded, issued-fits, house-narrow}
 use Rattle.rules.proofs.Texts.{six, line_refused, line-words, line-short, up_to, words-none, words_more, words_last}
 use Rattle.header.specs.Pairs.{issue_pair, issue_pair_memory}
 use Rattle.header.proofs.IssueLaws.{issue-judged, issue-refused}
 use Rattle.wiring.proofs.Found.{judge-is, judge-number}
 use Rattle.ways.proofs.PairLaws.{bare}
-use Rattle.report.specs.Put.{Put, spaced_number, spaced_numbers}
+use Rattle.report.specs.Put.{Put, spaced_numbers}
 use Rattle.report.proofs.PutLaws.{put-more, put-length}
 
 -- ---- the answer

@@ -2,7 +2,7 @@
 -- there is room for every line. Assumes nothing.
 use Prim.Native.Nat.{ℕ, ◌+◌, ◌-◌, ◌*◌, ◌/◌, ◌≤◌, ◌<◌}
 use native.Mathlib.Omega.{arith}
-use mathlib.Core.Path.{◌≡◌, refl, sym, ap, ap₂, ◌∙◌, subst, subst₂}
+use mathlib.Core.Path.{◌≡◌, refl, ap, ap₂, ◌∙◌, subst, subst₂}
 use mathlib.Core.List.{List, [], ◌++◌}
 use lib.ListN.{length}
 use borrow.Author.Tests.{le-leb}

@@ -1,8 +1,8 @@
 -- The three texts for an input: it is too long, it has a bad field, or it has a line for each pair. Assumes nothing.
-use Prim.Native.Nat.{ℕ, ◌+◌, ◌*◌, ◌≤◌, ◌<◌}
+use Prim.Native.Nat.{ℕ, ◌*◌, ◌≤◌, ◌<◌}
 use native.Mathlib.Decide.{dec_le}
 use native.Mathlib.Omega.{arith}
-use mathlib.Core.Path.{◌≡◌, refl, sym, ap, ◌∙◌, subst}
+use mathlib.Core.Path.{◌≡◌, refl, sym, ap, ◌∙◌}
 use mathlib.Core.List.{List, ◌++◌}
 use lib.ListN.{length, take, drop, length-append}
 use Rattle.rules.specs.declared.FieldAnswer.{FieldAnswer}
@@ -10,7 +10,6 @@ use Rattle.rules.specs.Table.{house}
 use Rattle.rules.specs.Fields.{Filled}
 use Rattle.rules.specs.Print.{too_long_text, bad_field_text}
 use Rattle.rules.specs.Text.{Reported}
-use Rattle.rules.specs.RunFields.{rows, pairs, entries}
 use Rattle.rules.specs.RunText.{text_of, good_text}
 use Rattle.rules.proofs.Texts.{text-long, text-bad, text-good, reported-met, reported-short}
 use Rattle.rules.proofs.FieldLaws.{rows_few}

@@ -10,7 +10,7 @@ use lib.ListN.{length, get_or}
 use Rattle.rules.specs.declared.Answer.{Answer}
 use Rattle.rules.specs.declared.TestAnswer.{TestAnswer}
 use Rattle.rules.specs.declared.WalkAnswer.{WalkAnswer}
-use Rattle.rules.specs.declared.Verdict.TheVariants.{Neither, No, Yes}
+use Rattle.rules.specs.declared.Verdict.TheVariants.{Neither, Yes}
 use Rattle.rules.specs.declared.Ending.TheVariants.{Delivered}
 use Rattle.rules.specs.Sets.{has}
 use Rattle.rules.specs.Net.{Distance, InMask}

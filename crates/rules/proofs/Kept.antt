@@ -19,7 +19,6 @@ use Rattle.rules.specs.Header.{permits, Passes, Best}
 use Rattle.rules.specs.Table.{Sizes, switches, far_of, Stands}
 use Rattle.rules.specs.Refusals.{Refusal, most_hops, of_pair, too_far, too_short, too_many}
 use Rattle.rules.specs.Promise.{Blank, Judged, Measured, Masked, Header, Issued, Tested}
-use Rattle.rules.specs.Run.{best}
 use Rattle.rules.specs.Look.{first, accepted, answered}
 use Rattle.rules.specs.RunTable.{judge_of, home}
 use Rattle.rules.specs.RunPair.{words, distance, mask, tries_of, words_of, passes_of, look7, look8, look9, look_pair, measure_of, mask_judgement, mask_answer, mask_memory, test_of, issue_judgement, issue_answer, issue_memory}

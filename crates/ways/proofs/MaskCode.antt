@@ -9,7 +9,7 @@ use mathlib.Core.Path.{◌≡◌, refl, sym, ap, ◌∙◌, subst}
 use mathlib.Core.Logic.{◌⊎◌, inl, inr, ⊎_elim}
 use mathlib.Core.Bool.{Bool, true, false, cond, not}
 use mathlib.Core.List.{List}
-use borrow.Author.Tests.{lt-ltb, eq-eqb, ne_eqb, not-true, not-false}
+use borrow.Author.Tests.{lt-ltb, eq-eqb, ne_eqb}
 use lib.Dec.{eqb, ltb}
 use lib.ListN.{length, get_or, set, replicate, length-set, length-replicate}
 use lib.Seq.{get_or-set_same, get_or-set_other, ext_get_or}

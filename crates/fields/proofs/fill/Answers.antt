@@ -1,4 +1,3 @@
-use Prim.Native.Nat.{◌-◌}
 use Rattle.fields.proofs.Laws.{filling-more, filling-end}
 use Rattle.fields.proofs.fill.Goals as goal
 

@@ -29,8 +29,10 @@ rest-is : (t : ℕ) (c : After-recalled-rest t)
 rest-is t c =
     let u = c.loop-w in
     let k = c.if-must_search in
-    elim c.if-must_search.branch [ then-must_search w ↦ recalled-found _ _ _ _ _ _ _ w.seek-sought.ensures.is k.kept w.kept-is c.recalled-rest.result c.recalled-rest.ensures
-        | else-must_search w ↦ recalled-kept _ _ _ _ _ _ u.kept u.invariant.1.0 (is-kept u.kept c.join-reached.result (sym c.must_search.ensures ∙ w.if-must_search.false)) k.kept w.kept-is c.recalled-rest.result c.recalled-rest.ensures ]
+    elim c.if-must_search.branch [
+      | then-must_search w ↦ recalled-found _ _ _ _ _ _ _ w.seek-sought.ensures.is k.kept w.kept-is c.recalled-rest.result c.recalled-rest.ensures
+      | else-must_search w ↦ recalled-kept _ _ _ _ _ _ u.kept u.invariant.1.0 (is-kept u.kept c.join-reached.result (sym c.must_search.ensures ∙ w.if-must_search.false)) k.kept w.kept-is c.recalled-rest.result c.recalled-rest.ensures
+    ]
 
 -- and it is kept
 kept_on : (t : ℕ) (c : Joined-must_search t)
@@ -40,8 +42,10 @@ kept_on t c =
     let u = c.loop-w in
     let k = c.if-must_search in
     let held = held_same a.table.now a.masks.now in
-    elim c.if-must_search.branch [ then-must_search w ↦ (found-kept _ _ _ _ _ _ _ w.seek-sought.ensures.is k.kept w.kept-is, held _ _ _ w.below-is w.seek-sought.ensures.keeps)
-        | else-must_search w ↦ (held _ _ _ w.kept-is u.invariant.1.0, held _ _ _ w.below-is u.invariant.1.1) ]
+    elim c.if-must_search.branch [
+      | then-must_search w ↦ (found-kept _ _ _ _ _ _ _ w.seek-sought.ensures.is k.kept w.kept-is, held _ _ _ w.below-is w.seek-sought.ensures.keeps)
+      | else-must_search w ↦ (held _ _ _ w.kept-is u.invariant.1.0, held _ _ _ w.below-is u.invariant.1.1)
+    ]
 
 pub returns-then-left-eq1 : goal.returns-then-left-eq1
 returns-then-left-eq1 t c =
@@ -103,8 +107,10 @@ rest-is-After-struct_known-1 : (t : ℕ) (c : After-struct_known-1 t)
 rest-is-After-struct_known-1 t c =
     let u = c.loop-w in
     let k = c.if-must_search in
-    elim c.if-must_search.branch [ then-must_search w ↦ recalled-found _ _ _ _ _ _ _ w.seek-sought.ensures.is k.kept w.kept-is c.recalled-rest.result c.recalled-rest.ensures
-        | else-must_search w ↦ recalled-kept _ _ _ _ _ _ u.kept u.invariant.1.0 (is-kept u.kept c.join-reached.result (sym c.must_search.ensures ∙ w.if-must_search.false)) k.kept w.kept-is c.recalled-rest.result c.recalled-rest.ensures ]
+    elim c.if-must_search.branch [
+      | then-must_search w ↦ recalled-found _ _ _ _ _ _ _ w.seek-sought.ensures.is k.kept w.kept-is c.recalled-rest.result c.recalled-rest.ensures
+      | else-must_search w ↦ recalled-kept _ _ _ _ _ _ u.kept u.invariant.1.0 (is-kept u.kept c.join-reached.result (sym c.must_search.ensures ∙ w.if-must_search.false)) k.kept w.kept-is c.recalled-rest.result c.recalled-rest.ensures
+    ]
 
 -- the turn after a rest that is not over
 took : (t : ℕ) (c : After-struct_known-1 t) (g : Found) (v : ℕ)

@@ -1,4 +1,3 @@
-use Prim.Native.Nat.{◌-◌}
 use borrow.Author.Rules.{rules}
 use lib.ListN.{get_or}
 use Rattle.rules.specs.Table.{switches}
@@ -8,9 +7,13 @@ use Rattle.header.proofs.alike.Goals.{else-ports-p-eq1, then-ports-p-eq1+else-fo
 
 pub loop-p-preserved : goal.loop-p-preserved
 loop-p-preserved c =
-    let at = c.loop-p.invariant.1 in
-    (search rules, elim c.if-ports-p-eq1.branch [ then-ports-p-eq1+else-follow w ↦ same_in at w.follow.ensures w.follow-then-ports-p-eq1.ensures w.if-follow.false
-        | else-ports-p-eq1 w ↦ same_out at w.if-ports-p-eq1.false ])
+    let at = c.loop-p.invariant.1 in (
+      search rules,
+      elim c.if-ports-p-eq1.branch [
+        | then-ports-p-eq1+else-follow w ↦ same_in at w.follow.ensures w.follow-then-ports-p-eq1.ensures w.if-follow.false
+        | else-ports-p-eq1 w ↦ same_out at w.if-ports-p-eq1.false
+      ],
+    )
 
 pub returns : goal.returns
 unfolding switches

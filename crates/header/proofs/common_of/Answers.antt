@@ -1,4 +1,4 @@
-use Prim.Native.Nat.{◌+◌, ◌-◌}
+use Prim.Native.Nat.{◌+◌}
 use Rattle.header.proofs.ScanLaws.{Meets, scan-start, scan-meets, scan-on, common-start, common-on, common-all}
 use Rattle.header.proofs.common_of.Goals as goal
 use Rattle.header.proofs.common_of.Goals.{After-index-k}

@@ -1,4 +1,4 @@
-use Prim.Native.Nat.{◌+◌, ◌-◌, ◌<◌}
+use Prim.Native.Nat.{◌+◌, ◌<◌}
 use borrow.Author.Rules.{rules}
 use Rattle.rules.specs.Table.{house, switches}
 use Rattle.rules.proofs.Tables.{far_of-wired}
@@ -35,8 +35,10 @@ loop-rest-preserved c =
     let start = c.requires in
     let read = c.entry.ensures in (
       scan-on at.0 c.loop-rest-test.true c.index-k.ensures,
-      elim c.match-entry.branch [ in-Switch w ↦ link-followed _ _ _ (inside (goal.at.loop-rest-preserved c).After-index-k) start.1 read start.0.short w.in-Switch.is w.index16.ensures (meets (goal.at.loop-rest-preserved c).After-index-k) at.1 w.reached-is
-        | in_default w ↦ none-followed _ _ _ (inside (goal.at.loop-rest-preserved c).After-index-k) start.1 read (opened w.in_default.in_default-own.keys2) (meets (goal.at.loop-rest-preserved c).After-index-k) at.1 w.reached-is ],
+      elim c.match-entry.branch [
+        | in-Switch w ↦ link-followed _ _ _ (inside (goal.at.loop-rest-preserved c).After-index-k) start.1 read start.0.short w.in-Switch.is w.index16.ensures (meets (goal.at.loop-rest-preserved c).After-index-k) at.1 w.reached-is
+        | in_default w ↦ none-followed _ _ _ (inside (goal.at.loop-rest-preserved c).After-index-k) start.1 read (opened w.in_default.in_default-own.keys2) (meets (goal.at.loop-rest-preserved c).After-index-k) at.1 w.reached-is
+      ],
     )
 
 pub returns : goal.returns

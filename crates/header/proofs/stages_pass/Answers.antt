@@ -1,4 +1,3 @@
-use Prim.Native.Nat.{◌-◌}
 use Rattle.header.proofs.StageLaws.{passing-empty, passing-outside, passing-on, passing-all}
 use Rattle.header.proofs.stages_pass.Goals as goal
 

@@ -1,4 +1,3 @@
-use Prim.Native.Nat.{◌-◌}
 use Rattle.report.proofs.PutLaws.{copied_more}
 use Rattle.report.proofs.put.Goals as goal
 

@@ -1,4 +1,3 @@
-use Prim.Native.Nat.{◌-◌}
 use mathlib.Core.Path.{refl}
 use Rattle.rules.specs.Sets.{tabulate}
 use Rattle.rules.specs.Print.{ascii, heading}

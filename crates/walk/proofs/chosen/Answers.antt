@@ -1,4 +1,4 @@
-use Prim.Native.Nat.{ℕ, ◌-◌, ◌%◌}
+use Prim.Native.Nat.{ℕ, ◌%◌}
 use mathlib.Core.Path.{◌≡◌, ap}
 use lib.Count.{ones}
 use Rattle.rules.proofs.Widest.{ones_pos}
@@ -23,8 +23,10 @@ returns-then-below-wanted c =
 pub loop-p-preserved : goal.loop-p-preserved
 loop-p-preserved c =
     let l = c.loop-p-test.true in
-    elim c.if-word-p-eq1.branch [ then-word-p-eq1+else-below-wanted w ↦ counted-permitted _ _ c.loop-p.invariant l w.if-word-p-eq1.true w.if-below-wanted.false w.below-is
-        | else-word-p-eq1 w ↦ counted-barred _ _ c.loop-p.invariant l w.if-word-p-eq1.false w.below-is ]
+    elim c.if-word-p-eq1.branch [
+      | then-word-p-eq1+else-below-wanted w ↦ counted-permitted _ _ c.loop-p.invariant l w.if-word-p-eq1.true w.if-below-wanted.false w.below-is
+      | else-word-p-eq1 w ↦ counted-barred _ _ c.loop-p.invariant l w.if-word-p-eq1.false w.below-is
+    ]
 
 pub returns : goal.returns
 returns c = counted-all _ _ c.loop-p.invariant _ (modulo (goal.at.returns c).After-long) c.loop-p-test.false

@@ -1,4 +1,3 @@
-use Prim.Native.Nat.{◌-◌}
 use native.Mathlib.Omega.{arith}
 use Rattle.rules.specs.Table.{switches}
 use Rattle.walk.proofs.Laws.{Hopped, walk-moved, walk-delivered, walk-leftover, walk-off, walk-empty, walk-short}

@@ -1,5 +1,4 @@
 use native.Mathlib.Omega.{arith}
-use Rattle.rules.specs.Run.{mask_of}
 use Rattle.ways.proofs.MaskCode.{written_start, written-skip, written_one, written-end, order-few}
 use Rattle.ways.proofs.all_masks.Goals as goal
 

@@ -1,4 +1,3 @@
-use Prim.Native.Nat.{◌-◌}
 use Rattle.rules.specs.RunTable.{stands}
 use Rattle.rules.specs.Table.{house}
 use Rattle.wiring.proofs.Laws.{passed-hit, passed-all}

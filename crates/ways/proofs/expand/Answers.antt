@@ -1,4 +1,3 @@
-use Prim.Native.Nat.{◌-◌}
 use native.Mathlib.Omega.{arith}
 use Rattle.rules.proofs.Tables.{port-inside}
 use Rattle.ways.proofs.SearchCode.{begin-place, begin-low, going-inside, going-none, going-seen, going-room, going-new, going_end}

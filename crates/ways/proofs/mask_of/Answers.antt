@@ -1,4 +1,3 @@
-use Prim.Native.Nat.{◌-◌}
 use native.Mathlib.Omega.{arith}
 use mathlib.Core.Path.{◌∙◌}
 use borrow.Author.Rules.{rules}
@@ -39,8 +38,10 @@ overflow_add-mask c =
 pub loop-p-preserved : goal.loop-p-preserved
 loop-p-preserved c =
     let on = port-ahead c.args.table.now c.args.s c.loop-p.p _ _ _ _ _ c.requires.1 c.loop-p-test.true c.entry.ensures c.leads_on.ensures in
-    elim c.if-leads_on.branch [ then-leads_on w ↦ grown-with c.loop-p.invariant c.loop-p-test.true (on ∙ w.if-leads_on.true) w.mask-is
-        | else-leads_on w ↦ grown-without c.loop-p.invariant c.loop-p-test.true (on ∙ w.if-leads_on.false) w.mask-is ]
+    elim c.if-leads_on.branch [
+      | then-leads_on w ↦ grown-with c.loop-p.invariant c.loop-p-test.true (on ∙ w.if-leads_on.true) w.mask-is
+      | else-leads_on w ↦ grown-without c.loop-p.invariant c.loop-p-test.true (on ∙ w.if-leads_on.false) w.mask-is
+    ]
 
 pub returns : goal.returns
 unfolding onward_of

@@ -1,4 +1,3 @@
-use Prim.Native.Nat.{◌-◌}
 use native.Mathlib.Omega.{arith}
 use Rattle.ways.proofs.SearchCode.{home-few, searching-start, searching-few, searching-end}
 use Rattle.ways.proofs.search_from.Goals as goal

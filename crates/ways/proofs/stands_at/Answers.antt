@@ -1,4 +1,3 @@
-use Prim.Native.Nat.{◌-◌}
 use native.Mathlib.Omega.{arith}
 use mathlib.Core.Path.{sym, ◌∙◌}
 use Rattle.wiring.proofs.Laws.{passed-one}
@@ -31,8 +30,10 @@ loop-p-preserved c =
     let inside = c.requires in
     let port = c.loop-p-test.true in
     passed-one c.loop-p.invariant port
-    (elim c.match-entry.branch [ in-Node+else-number-target w ↦ port-not _ _ _ inside port _ c.entry.ensures w.in-Node.is (λ q. w.if-number-target.false (w.number.ensures ∙ q))
-        | in_default w ↦ port-other _ _ _ inside port _ c.entry.ensures (opened w.in_default.in_default-own.keys2) ])
+    (elim c.match-entry.branch [
+      | in-Node+else-number-target w ↦ port-not _ _ _ inside port _ c.entry.ensures w.in-Node.is (λ q. w.if-number-target.false (w.number.ensures ∙ q))
+      | in_default w ↦ port-other _ _ _ inside port _ c.entry.ensures (opened w.in_default.in_default-own.keys2)
+    ])
 
 pub returns : goal.returns
 returns c = stands-nowhere _ _ _ c.loop-p.invariant c.loop-p-test.false

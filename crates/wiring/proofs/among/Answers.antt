@@ -1,4 +1,4 @@
-use Prim.Native.Nat.{◌+◌, ◌-◌}
+use Prim.Native.Nat.{◌+◌}
 use native.Mathlib.Numerals.{add-one}
 use mathlib.Core.Path.{ap}
 use mathlib.Core.Bool.{Bool, ◌||◌}

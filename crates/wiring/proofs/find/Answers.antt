@@ -1,4 +1,4 @@
-use Prim.Native.Nat.{◌-◌, ◌<◌}
+use Prim.Native.Nat.{◌<◌}
 use native.Mathlib.Omega.{arith}
 use mathlib.Core.Path.{sym, ◌∙◌}
 use lib.ListN.{length}
@@ -19,8 +19,10 @@ unfolding switches
 loop-i-preserved c =
     let inside : c.loop-i.i < length c.args.table.now = omega arith in
     passed-one c.loop-i.invariant c.loop-i-test.true
-    (elim c.match-entry.branch [ in-Node+else-as_number-node w ↦ stands-not _ _ inside _ c.entry.ensures w.in-Node.is (λ q. w.if-as_number-node.false (w.as_number.ensures ∙ q))
-        | in_default w ↦ stands-other _ _ inside _ c.entry.ensures (opened w.in_default.in_default-own.keys2) ])
+    (elim c.match-entry.branch [
+      | in-Node+else-as_number-node w ↦ stands-not _ _ inside _ c.entry.ensures w.in-Node.is (λ q. w.if-as_number-node.false (w.as_number.ensures ∙ q))
+      | in_default w ↦ stands-other _ _ inside _ c.entry.ensures (opened w.in_default.in_default-own.keys2)
+    ])
 
 pub returns : goal.returns
 unfolding switches

@@ -1,4 +1,4 @@
-use Prim.Native.Nat.{◌-◌, ◌<◌}
+use Prim.Native.Nat.{◌<◌}
 use native.Mathlib.Omega.{arith}
 use mathlib.Core.Path.{sym, ◌∙◌}
 use borrow.Author.Rules.{rules}
@@ -18,8 +18,10 @@ pub scan-preserved : goal.scan-preserved
 scan-preserved c =
     let inside : c.scan.i < length c.args.table.now = omega arith in
     passed-one c.scan.invariant inside
-    (elim c.match-entry.branch [ in-Node+else-loop-j-test w ↦ let all = w.loop-j-test.false in again-not _ _ inside (λ k l. w.loop-j.invariant.1 k (omega arith))
-        | in_default w ↦ again-other _ _ inside c.entry.ensures (opened w.in_default.in_default-own.keys2) ])
+    (elim c.match-entry.branch [
+      | in-Node+else-loop-j-test w ↦ let all = w.loop-j-test.false in again-not _ _ inside (λ k l. w.loop-j.invariant.1 k (omega arith))
+      | in_default w ↦ again-other _ _ inside c.entry.ensures (opened w.in_default.in_default-own.keys2)
+    ])
 
 pub returns-then-i-table : goal.returns-then-i-table
 returns-then-i-table c = passed-all c.scan.invariant (search rules)

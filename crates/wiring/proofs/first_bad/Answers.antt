@@ -1,4 +1,3 @@
-use Prim.Native.Nat.{◌-◌}
 use Rattle.wiring.proofs.Laws.{passed-one, passed-hit, passed-all, bad-told, bad-not}
 use borrow.Enum.Refused.{opened}
 use Rattle.wiring.proofs.first_bad.Goals as goal
