@@ -6,7 +6,9 @@ mod on_header;
 mod on_ways;
 mod show;
 
-fn main() {
-    on_ways::run();
-    on_header::run();
+use std::io;
+
+fn main(rt: HostRuntime) -> io::Result<()> {
+    on_ways::run(&rt)?;
+    on_header::run(&rt)
 }

@@ -2,29 +2,28 @@
 ghost use Rattle.std.specs.Prelude.{◌≡◌, ◌≤◌};
 
 use rules::Answer;
+use std::io;
 
-pub(crate) fn say(text: &[u8]) {
-    io::write_all(1, text);
+pub(crate) fn say(rt: &impl Print, text: &[u8]) -> io::Result<()> {
+    rt.write_all(text)
 }
 
 // A space and the number.
-pub(crate) fn number(n: u64) {
-    io::write_all(1, b" ");
-    io::print_decimal(1, n);
+pub(crate) fn number(rt: &impl Print, n: u64) -> io::Result<()> {
+    print!(rt; " {n}")
 }
 
-pub(crate) fn hex(x: u8) {
-    io::write_all(1, b" ");
-    io::print_hex(1, small(x), 2);
+pub(crate) fn hex(rt: &impl Print, x: u8) -> io::Result<()> {
+    print!(rt; " {x:02x}")
 }
 
 // Number, place, distance, count and tries.
-pub(crate) fn answer(r: Answer) {
-    number(small(r.number));
-    number(wide(r.place));
-    number(small(r.distance));
-    number(middle(r.count));
-    number(middle(r.tries));
+pub(crate) fn answer(rt: &impl Print, r: Answer) -> io::Result<()> {
+    number(rt, small(r.number))?;
+    number(rt, wide(r.place))?;
+    number(rt, small(r.distance))?;
+    number(rt, middle(r.count))?;
+    number(rt, middle(r.tries))
 }
 
 pub(crate) fn small(x: u8) -> u64 {

@@ -6,7 +6,9 @@ mod on_fields;
 mod on_walk;
 mod show;
 
-fn main() {
-    on_walk::run();
-    on_fields::run();
+use std::io;
+
+fn main(rt: HostRuntime) -> io::Result<()> {
+    on_walk::run(&rt)?;
+    on_fields::run(&rt)
 }

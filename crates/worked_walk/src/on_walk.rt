@@ -2,163 +2,207 @@
 use crate::show::{half, number, say, small, wide};
 use networks::{A, B};
 use rules::Ending;
+use std::io;
 
-pub(crate) fn run() {
-    endings();
-    delivered();
-    at_a_switch();
-    refusals();
-    no_choice();
-    on_b();
-    self_link();
-    all_choices();
+pub(crate) fn run(rt: &impl Print) -> io::Result<()> {
+    endings(rt)?;
+    delivered(rt)?;
+    at_a_switch(rt)?;
+    refusals(rt)?;
+    no_choice(rt)?;
+    on_b(rt)?;
+    self_link(rt)?;
+    all_choices(rt)?;
+    Ok(())
 }
 
-fn endings() {
+fn endings(rt: &impl Print) -> io::Result<()> {
     walked(
+        rt,
         b"A from 0, 30 02 01 with 3 0 0:",
         &A,
         0,
         b"\x30\x02\x01",
         b"\x03\x00\x00",
-    );
+    )?;
     walked(
+        rt,
         b"A from 0, 02 01 with 0 0:",
         &A,
         0,
         b"\x02\x01",
         b"\x00\x00",
-    );
+    )?;
     walked(
+        rt,
         b"A from 0, 10 02 with 0 0:",
         &A,
         0,
         b"\x10\x02",
         b"\x00\x00",
-    );
+    )?;
+    Ok(())
 }
 
-fn delivered() {
+fn delivered(rt: &impl Print) -> io::Result<()> {
     walked(
+        rt,
         b"A from 0, 10 02 01 with 9 9 9 9:",
         &A,
         0,
         b"\x10\x02\x01",
         b"\x09\x09\x09\x09",
-    );
+    )?;
     walked(
+        rt,
         b"A from 2, 30 01 01 with 0 5 200:",
         &A,
         2,
         b"\x30\x01\x01",
         b"\x00\x05\xc8",
-    );
+    )?;
+    Ok(())
 }
 
-fn at_a_switch() {
-    walked(b"A from 0, no word:", &A, 0, b"", b"");
+fn at_a_switch(rt: &impl Print) -> io::Result<()> {
+    walked(rt, b"A from 0, no word:", &A, 0, b"", b"")?;
     walked(
+        rt,
         b"A from 0, 10 00 01 with 0 0 0:",
         &A,
         0,
         b"\x10\x00\x01",
         b"\x00\x00\x00",
-    );
-    walked(b"A from 0, 00:", &A, 0, b"\x00", b"\x00");
-    walked(b"A from 0, 04:", &A, 0, b"\x04", b"\x00");
+    )?;
+    walked(rt, b"A from 0, 00:", &A, 0, b"\x00", b"\x00")?;
+    walked(rt, b"A from 0, 04:", &A, 0, b"\x04", b"\x00")?;
+    Ok(())
 }
 
-fn refusals() {
+fn refusals(rt: &impl Print) -> io::Result<()> {
     let nine = b"\x10\x02\x01\x01\x01\x01\x01\x01\x01";
-    walked(b"A from 0, nine words:", &A, 0, nine, nine);
+    walked(rt, b"A from 0, nine words:", &A, 0, nine, nine)?;
     walked(
+        rt,
         b"A from 0, three words with two choices:",
         &A,
         0,
         b"\x10\x02\x01",
         b"\x00\x00",
-    );
+    )?;
+    Ok(())
 }
 
-fn no_choice() {
+fn no_choice(rt: &impl Print) -> io::Result<()> {
     let nine = b"\x10\x02\x01\x01\x01\x01\x01\x01\x01";
-    walked(b"A from 0, nine words with no choice:", &A, 0, nine, b"");
-    walked(b"A from 9, nine words with no choice:", &A, 9, nine, b"");
-    walked(b"of length 7 from 9:", &A[..7], 9, b"\x10", b"");
+    walked(
+        rt,
+        b"A from 0, nine words with no choice:",
+        &A,
+        0,
+        nine,
+        b"",
+    )?;
+    walked(
+        rt,
+        b"A from 9, nine words with no choice:",
+        &A,
+        9,
+        nine,
+        b"",
+    )?;
+    walked(rt, b"of length 7 from 9:", &A[..7], 9, b"\x10", b"")?;
+    Ok(())
 }
 
-fn on_b() {
+fn on_b(rt: &impl Print) -> io::Result<()> {
     walked(
+        rt,
         b"B from 0, 10 07 01 with 0 1 0:",
         &B,
         0,
         b"\x10\x07\x01",
         b"\x00\x01\x00",
-    );
+    )?;
     walked(
+        rt,
         b"B from 0, 20 04 01 with 1 1 1:",
         &B,
         0,
         b"\x20\x04\x01",
         b"\x01\x01\x01",
-    );
+    )?;
+    Ok(())
 }
 
-fn self_link() {
+fn self_link(rt: &impl Print) -> io::Result<()> {
     let mut t = A;
     t[6] = 0;
     walked(
+        rt,
         b"A with a self link, 40 40 40 02 with 0 0 0 0:",
         &t,
         0,
         b"\x40\x40\x40\x02",
         b"\x00\x00\x00\x00",
-    );
+    )?;
     walked(
+        rt,
         b"A with a self link, 40 40 with 0 0:",
         &t,
         0,
         b"\x40\x40",
         b"\x00\x00",
-    );
+    )?;
     t[31] = 1600;
-    walked(b"A with a bad entry:", &t, 0, b"\x01", b"\x00");
+    walked(rt, b"A with a bad entry:", &t, 0, b"\x01", b"\x00")?;
+    Ok(())
 }
 
 // A word of all ones at a switch whose ports have eight processors: each choice byte takes its port.
-fn all_choices() {
+fn all_choices(rt: &impl Print) -> io::Result<()> {
     let mut c: u8 = 0;
     while c < 255 {
-        choice(c);
+        choice(rt, c)?;
         c += 1;
     }
-    choice(255);
-    say(b"\n");
+    choice(rt, 255)?;
+    say(rt, b"\n")?;
+    Ok(())
 }
 
-fn choice(c: u8) {
+fn choice(rt: &impl Print, c: u8) -> io::Result<()> {
     let t: [u16; 8] = [1000, 1001, 1002, 1003, 1004, 1005, 1006, 1007];
     let choices = [c];
     let r = walk::walk(&t, 0, b"\xff", &choices);
-    number(half(r.at));
+    number(rt, half(r.at))?;
+    Ok(())
 }
 
-fn walked(what: &[u8], table: &[u16], source: u64, words: &[u8], choices: &[u8]) {
+fn walked(
+    rt: &impl Print,
+    what: &[u8],
+    table: &[u16],
+    source: u64,
+    words: &[u8],
+    choices: &[u8],
+) -> io::Result<()> {
     let r = walk::walk(table, source, words, choices);
-    say(what);
-    number(small(r.number));
-    number(wide(r.place));
+    say(rt, what)?;
+    number(rt, small(r.number))?;
+    number(rt, wide(r.place))?;
     let ending = r.ending;
     match ending {
-        Ending::None => say(b" NONE"),
-        Ending::Delivered => say(b" DELIVERED"),
-        Ending::Leftover => say(b" LEFTOVER"),
-        Ending::Empty => say(b" EMPTY"),
-        Ending::Off => say(b" OFF"),
-        Ending::Short => say(b" SHORT"),
+        Ending::None => say(rt, b" NONE")?,
+        Ending::Delivered => say(rt, b" DELIVERED")?,
+        Ending::Leftover => say(rt, b" LEFTOVER")?,
+        Ending::Empty => say(rt, b" EMPTY")?,
+        Ending::Off => say(rt, b" OFF")?,
+        Ending::Short => say(rt, b" SHORT")?,
     }
-    number(half(r.at));
-    number(small(r.hops));
-    number(small(r.left));
-    say(b"\n");
+    number(rt, half(r.at))?;
+    number(rt, small(r.hops))?;
+    number(rt, small(r.left))?;
+    say(rt, b"\n")?;
+    Ok(())
 }

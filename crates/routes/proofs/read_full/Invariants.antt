@@ -1,0 +1,9 @@
+-- The loop of `read_full` ends: each read that does not end it moves `at`.
+use Rattle.std.proofs.Common.{length, ◌-◌, ◌≤◌}
+use Rattle.routes.proofs.read_full.Given as goal
+
+abbrev pub invariant-loop-at : goal.invariant-loop-at
+invariant-loop-at g l = l.at ≤ length l.buffer
+
+abbrev pub decreases-loop-at : goal.decreases-loop-at
+decreases-loop-at g l = length l.initial.buffer - l.at
