@@ -11,7 +11,7 @@ ghost use Rattle.rules.specs.RunFields.{is_field, rows, pairs, entries};
 use rules::FieldAnswer;
 
 // The two processors of a pair's field.
-#[derive(Drop)]
+#[derive(Clone, Copy)]
 pub struct Ends {
     pub source: u16,
     pub target: u16,

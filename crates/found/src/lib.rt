@@ -22,7 +22,7 @@ pub struct Kept {
 }
 
 // What is found from a set, and what is kept of the stage after it.
-#[derive(Drop)]
+#[derive(Clone, Copy)]
 pub struct Sought {
     pub found: Found,
     pub next: Kept,

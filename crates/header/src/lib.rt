@@ -29,7 +29,7 @@ pub fn issue(table: &[u16], source: u64, target: u64, out: &mut [u8]) -> Answer
     issue_pair(table, source, target, out)
 }
 
-// Header issue in a table that has been judged; on any other table it is what issue_pair says.
+// Header issue in a table that has been judged; on any other table it is what issue_pair of specs/Pairs says.
 pub fn issue_pair(table: &[u16], source: u64, target: u64, out: &mut [u8]) -> Answer
     ensures { (result ≡ issue_pair house table.now source target out.old) × (out.new ≡ issue_pair_memory house table.now source target out.old) }
 {
@@ -70,7 +70,7 @@ pub fn test(table: &[u16], source: u64, target: u64, header: &[u8]) -> TestAnswe
     test_pair(table, source, target, header)
 }
 
-// The header test in a table that has been judged; on any other table it is what test_pair says.
+// The header test in a table that has been judged; on any other table it is what test_pair of specs/Pairs says.
 pub fn test_pair(table: &[u16], source: u64, target: u64, header: &[u8]) -> TestAnswer
     ensures { result ≡ test_pair house table.now source target header.now }
 {

@@ -2,7 +2,7 @@
 #![tactic(auto)]
 
 // The kinds of an entry: a link to a switch, a processor, no link, or none of the three.
-#[derive(Drop)]
+#[derive(Clone, Copy)]
 pub enum Entry {
     Switch(u16),
     Node(u16),
@@ -18,7 +18,7 @@ pub struct Judgement {
 }
 
 // On success number and place are 0; on refusal all else is.
-#[derive(Drop)]
+#[derive(Clone, Copy)]
 pub struct Answer {
     pub number: u8,
     pub place: usize,
@@ -28,21 +28,21 @@ pub struct Answer {
 }
 
 // What the header test says; Neither goes with a refusal.
-#[derive(Drop)]
+#[derive(Clone, Copy)]
 pub enum Verdict {
     Neither,
     No,
     Yes,
 }
 
-#[derive(Drop)]
+#[derive(Clone, Copy)]
 pub struct TestAnswer {
     pub answer: Answer,
     pub says: Verdict,
 }
 
 // How a walk ended; None goes with a refusal.
-#[derive(Drop)]
+#[derive(Clone, Copy)]
 pub enum Ending {
     None,
     Delivered,
@@ -53,7 +53,7 @@ pub enum Ending {
 }
 
 // at is the processor or switch where the walk ended.
-#[derive(Drop)]
+#[derive(Clone, Copy)]
 pub struct WalkAnswer {
     pub number: u8,
     pub place: usize,
@@ -64,7 +64,7 @@ pub struct WalkAnswer {
 }
 
 // pairs is the offset of the first pair's field, or the input's length.
-#[derive(Drop)]
+#[derive(Clone, Copy)]
 pub struct FieldAnswer {
     pub number: u8,
     pub place: usize,

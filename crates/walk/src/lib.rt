@@ -11,7 +11,7 @@ use rules::{Ending, Entry, WalkAnswer};
 use wiring::{entry, find, judge};
 
 // What comes of one hop: the packet is at a switch or at a processor, the port has no link, or the word is 0.
-#[derive(Drop)]
+#[derive(Clone, Copy)]
 enum Step {
     Moved(usize),
     Arrived(u16),

@@ -17,7 +17,7 @@ use rules::{Answer, Entry};
 use wiring::{entry, find, judge};
 
 // The switches reached in the order in which they were found, how many they are, and the depth of each switch, 0 where it is not reached.
-#[derive(Drop)]
+#[derive(Clone, Copy)]
 struct Search {
     order: [u8; 64],
     depth: [u8; 64],
@@ -25,7 +25,7 @@ struct Search {
 }
 
 // A pair's distance, the switch of its source, and the mask of each switch; zeros with a refusal.
-#[derive(Drop)]
+#[derive(Clone, Copy)]
 pub struct Pair {
     pub answer: Answer,
     pub home: usize,
@@ -77,7 +77,7 @@ fn put(masks: [u8; 64], n: usize, out: &mut [u8])
     }
 }
 
-// The distance of a pair in a table that has been judged; on any other table it is what measure_pair says.
+// The distance of a pair in a table that has been judged; on any other table it is what measure_pair of specs/Pairs says.
 pub fn measure_pair(table: &[u16], source: u64, target: u64) -> Answer
     ensures { result ≡ measure_pair house table.now source target }
 {
@@ -149,7 +149,7 @@ fn no_pair(number: u8) -> Pair
 }
 
 // How the search from the source's switch met the target: refusal 4, 5 or 6, or the distance, the source's switch and what was found.
-#[derive(Drop)]
+#[derive(Clone, Copy)]
 struct Met {
     number: u8,
     distance: u8,

@@ -1,5 +1,5 @@
 // Runs the worked cases of the walk and of the field reader, and prints what they give; stdout holds what an independent implementation
-// gives. A crate beside `worked`, with which it shares show.rt, so that both are proved at once.
+// gives. A crate beside `worked`, whose show.rt it has a copy of, so that both are proved at once.
 #![tactic(auto)]
 
 mod on_fields;
