@@ -2,24 +2,21 @@
 -- end before the input does, and else the table begins with the entries of all rows. Assumes nothing.
 use Prim.Native.Nat.{ℕ, ◌+◌, ◌*◌, ◌≤◌, ◌<◌}
 use mathlib.Core.Path.{◌≡◌, sym, ap, ◌∙◌}
-use mathlib.Core.Bool.{cond}
-use mathlib.Core.List.{List, [], ◌∷◌, ◌++◌}
+use mathlib.Core.List.{List, ◌++◌}
 use lib.ListN.{length, take, drop, replicate, length-replicate}
-use lib.Dec.{ltb}
 use lib.Seq.{take_at}
 use native.Mathlib.Nat.{le_of_eq}
 use native.Mathlib.Decide.{dec_le}
 use native.Mathlib.Omega.{arith}
 use borrow.Author.Tests.{lt-ltb, le-ltb}
-use Rattle.rules.specs.declared.Judgement.{Judgement}
-use Rattle.rules.specs.declared.FieldAnswer.{FieldAnswer}
+use Rattle.rules.specs.Answers.{FieldAnswer}
 use Rattle.rules.specs.Table.{house}
 use Rattle.rules.specs.Fields.{Filled}
 use Rattle.rules.specs.Look.{first, pick, when, accepted}
 use Rattle.rules.specs.RunFields.{rows, pairs, entries, look12, fields_judgement, fields_of, fields_memory}
 use Rattle.rules.proofs.FieldLaws.{entries-length}
 use Rattle.rules.proofs.FieldPromises.{filled-met, filled-only}
-use Rattle.fields.specs.Rows.{rows_judgement, rows_of, rows_memory}
+use Rattle.fields.specs.Rows.{read_judgement, read_of, read_memory, rows_judgement, rows_of, rows_memory}
 
 -- a table lent whole has room for every table
 pub room : (x : ℕ) → 512 ≤ length (replicate 512 x)
@@ -28,15 +25,6 @@ room x = le_of_eq (sym (length-replicate 512 x))
 -- ---- any reader whose fields end at the offset q
 
 module _ (b out : List ℕ) (q : ℕ) where
-  unfoldable judged : Judgement
-  judged = first (look12 b q ∷ (8, when (ltb (length out) 512)) ∷ [])
-
-  unfoldable read_of : FieldAnswer
-  read_of = cond (accepted judged) (record { number = judged.number; place = judged.place; switches = rows b 64; pairs = 19 * rows b 64 + 7 * 0 }) (record { number = judged.number; place = judged.place; switches = 0; pairs = 0 })
-
-  unfoldable read_memory : List ℕ
-  read_memory = cond (accepted judged) (entries b (rows b 64) ++ drop (8 * rows b 64) out) out
-
   pub record Bad (r : FieldAnswer) : Type 0 where
     pub before : q < length b
     pub number : r.number ≡ 12
@@ -49,23 +37,24 @@ module _ (b out : List ℕ) (q : ℕ) where
     pub table : t ≡ entries b (rows b 64) ++ drop (8 * rows b 64) out
 
   module _ (room : 512 ≤ length out) where
-    short : q < length b → read_of ≡ record { number = 12; place = q; switches = 0; pairs = 0 }
-    unfolding read_of judged look12 first pick when accepted
+    short : q < length b → read_of house b out q ≡ record { number = 12; place = q; switches = 0; pairs = 0 }
+    unfolding read_of read_judgement look12 first pick when accepted
     short l = simp (lt-ltb _ _ l)
 
-    whole : length b ≤ q → (read_of ≡ record { number = 0; place = 0; switches = rows b 64; pairs = 19 * rows b 64 + 7 * 0 }) × (read_memory ≡ entries b (rows b 64) ++ drop (8 * rows b 64) out)
-    unfolding read_of read_memory judged look12 first pick when accepted
+    whole : length b ≤ q → (read_of house b out q ≡ record { number = 0; place = 0; switches = rows b 64; pairs = 19 * rows b 64 + 7 * 0 })
+        × (read_memory house b out q ≡ entries b (rows b 64) ++ drop (8 * rows b 64) out)
+    unfolding read_of read_memory read_judgement look12 first pick when accepted
     whole l = (simp (le-ltb _ _ l, le-ltb _ _ room), simp (le-ltb _ _ l, le-ltb _ _ room))
 
     -- it refuses, or it does not
-    read-bad-at : (r : FieldAnswer) → r ≡ read_of → ¬ (r.number ≡ 0) → Bad r
+    read-bad-at : (r : FieldAnswer) → r ≡ read_of house b out q → ¬ (r.number ≡ 0) → Bad r
     read-bad-at r e n = at (dec_le (length b) q)
       where
         at : Dec (length b ≤ q) → Bad r
         at (yes l) = absurd (n (ap (λ (x : FieldAnswer). x.number) (e ∙ (whole l).0)))
         at (no l) = let k = short (omega arith) in record { before = omega arith; number = ap (λ (x : FieldAnswer). x.number) (e ∙ k); place = ap (λ (x : FieldAnswer). x.place) (e ∙ k) }
 
-    read-good-at : (r : FieldAnswer) (t : List ℕ) → r ≡ read_of → t ≡ read_memory → r.number ≡ 0 → Good r t
+    read-good-at : (r : FieldAnswer) (t : List ℕ) → r ≡ read_of house b out q → t ≡ read_memory house b out q → r.number ≡ 0 → Good r t
     read-good-at r t e m n = at (dec_le (length b) q)
       where
         at : Dec (length b ≤ q) → Good r t
@@ -83,11 +72,11 @@ table_taken b out n e = take_at (entries b (rows b 64)) (drop (8 * rows b 64) ou
 module _ (b out : List ℕ) (room : 512 ≤ length out) (r : FieldAnswer) (t : List ℕ) where
   module _ (e : r ≡ rows_of house b out) (m : t ≡ rows_memory house b out) where
     pub rows-refused : ¬ (r.number ≡ 0) → Bad b out (19 * rows b 64 + 7 * 0) r
-    unfolding rows_of rows_judgement read_of judged
+    unfolding rows_of rows_judgement read_of read_judgement
     rows-refused = read-bad-at b out (19 * rows b 64 + 7 * 0) room r e
 
     pub rows-read : r.number ≡ 0 → Good b out (19 * rows b 64 + 7 * 0) r t
-    unfolding rows_of rows_memory rows_judgement read_of read_memory judged
+    unfolding rows_of rows_memory rows_judgement read_of read_memory read_judgement
     rows-read = read-good-at b out (19 * rows b 64 + 7 * 0) room r t e m
 
   module _ (h : Filled house b out r t) where
@@ -95,9 +84,9 @@ module _ (b out : List ℕ) (room : 512 ≤ length out) (r : FieldAnswer) (t : L
     same = filled-only house b out r (fields_of b house out) t (fields_memory b house out) h (filled-met house b out)
 
     pub fields-refused : ¬ (r.number ≡ 0) → Bad b out (19 * rows b 64 + 7 * pairs b 64) r
-    unfolding fields_of fields_judgement read_of judged
+    unfolding fields_of fields_judgement read_of read_judgement
     fields-refused = read-bad-at b out (19 * rows b 64 + 7 * pairs b 64) room r same.0
 
     pub fields_read : r.number ≡ 0 → Good b out (19 * rows b 64 + 7 * pairs b 64) r t
-    unfolding fields_of fields_memory fields_judgement read_of read_memory judged
+    unfolding fields_of fields_memory fields_judgement read_of read_memory read_judgement
     fields_read = read-good-at b out (19 * rows b 64 + 7 * pairs b 64) room r t same.0 same.1

@@ -7,7 +7,7 @@ use mathlib.Core.Path.{◌≡◌, refl, sym, ap, ap₂, ◌∙◌, subst, subst�
 use mathlib.Core.List.{List, [], ◌∷◌, ◌++◌, append-nil, append_assoc}
 use lib.ListN.{length, get_or, take, length-append, get_or-append}
 use lib.Seq.{get_or-append-add, length-take-le, get_or-take, ext_get_or}
-use Rattle.rules.specs.declared.FieldAnswer.{FieldAnswer}
+use Rattle.rules.specs.Answers.{FieldAnswer}
 use Rattle.rules.specs.Table.{house}
 use Rattle.rules.specs.Fields.{two, Field, offset, Holds, Upto, Next, bad_field, Filled}
 use Rattle.rules.specs.Print.{heading, most_input, Printed}

@@ -1,29 +1,34 @@
 -- What a header search has found, as numbers and eight bytes. Assumes nothing.
 --
 --   last_found c             the last stage, where the common ports are c
---   over_budget              the tries would pass the budget
 --   wider_found k r w n      the wider of the header k and that of the word w before the rest r, n words in all
---   total_found b k budget   the best header, with k tries in all
---   written ws n out        the last n of eight words, zeros up to the eighth byte, and what stood after them
-use Rattle.std.specs.Prelude.{ℕ, ◌-◌, ◌*◌, ◌%◌, ◌^◌, true, false, cond, ◌||◌, List, ◌++◌, length, set, drop, replicate, ltb, leb}
+--   total_found b k budget   the best header, with k tries in all; None where these pass the budget
+--   recalled_of k m          what is kept of the set m; None where nothing is, or of another set
+--   within_room f room       what was found; None where its tries pass the room
+--   written ws out           the words, zeros up to the eighth byte, and what stood after them
+use Rattle.std.specs.Prelude.{ℕ, ◌-◌, ◌*◌, ◌%◌, ◌^◌, cond, ◌||◌, List, ◌++◌, length, set, drop, replicate, eqb, ltb, leb, Option, Some, None}
 use Rattle.std.specs.Int.Count.{ones}
 use Rattle.found.specs.declared.Found.{Found}
+use Rattle.found.specs.declared.Kept.{Kept}
 
 -- the last stage takes all common ports, and none are no header
 abbrev pub last_found : ℕ → Found
-last_found c = record { words = set (replicate 8 0) 7 c; count = ones c; tries = 0; over = false }
-
-abbrev pub over_budget : Found
-over_budget = record { words = replicate 8 0; count = 0; tries = 0; over = true }
+last_found c = record { words = set (replicate 8 0) 7 c; count = ones c; tries = 0 }
 
 unfoldable pub wider_found : Found → Found → ℕ → ℕ → Found
 wider_found kept rest w n =
-    let k = rest.count % 2 ^ 29 * ones w in
-    cond (leb k kept.count) kept (record { words = set rest.words (8 - n) w; count = k; tries = 0; over = false })
+    let k = rest.count % 2 ^ 29 * ones w in cond (leb k kept.count) kept (record { words = set rest.words (8 - n) w; count = k; tries = 0 })
 
-abbrev pub total_found : Found → ℕ → ℕ → Found
-total_found best k budget = record { words = best.words; count = best.count; tries = k; over = ltb budget k }
+abbrev pub total_found : Found → ℕ → ℕ → Option Found
+total_found best k budget = cond (leb k budget) (Some (record { words = best.words; count = best.count; tries = k })) None
 
-unfoldable pub written : List ℕ → ℕ → List ℕ → List ℕ
-written words n out =
-    let o = drop (8 - n) words ++ (replicate (8 - n) 0 ++ drop 8 out) in cond (ltb (length out) 8 || ltb 8 n) out o
+abbrev pub recalled_of : Option Kept → ℕ → Option Found
+recalled_of None m = None
+recalled_of (Some k) m = cond (eqb k.set m) (Some k.found) None
+
+abbrev pub within_room : Found → ℕ → Option Found
+within_room f room = cond (leb f.tries room) (Some f) None
+
+unfoldable pub written : List ℕ → List ℕ → List ℕ
+written words out =
+    let o = words ++ (replicate (8 - length words) 0 ++ drop 8 out) in cond (ltb (length out) 8 || ltb 8 (length words)) out o

@@ -7,8 +7,9 @@ use mathlib.Core.Path.{◌≡◌, refl, sym, ap, ap₂, ◌∙◌, subst, fun_ex
 use mathlib.Core.Logic.{◌↔◌, ⊎_elim, inl, inr}
 use mathlib.Core.Bool.{Bool, true, false, cond}
 use mathlib.Core.List.{List}
-use mathlib.Core.Option.{Option, none}
-use lib.Dec.{T, ltb}
+use Rattle.std.specs.Prelude.{Option, None}
+use lib.Dec.{T, leb}
+use Rattle.std.specs.Prelude.{Some, None}
 use lib.ListN.{get_or}
 use lib.Bits.{bit_or, or_lt}
 use lib.Pow.{pow_pos}
@@ -18,7 +19,6 @@ use Rattle.rules.specs.Tries.{choice, common, reach, tries}
 use Rattle.rules.specs.Run.{widest, best}
 use Rattle.rules.proofs.Counted.{sum_same}
 use Rattle.rules.proofs.Search.{in_reach}
-use Rattle.found.specs.Found.{over_budget}
 use Rattle.header.specs.Search.{found, found_of, singles, joined, Alike, Grouped}
 use Rattle.header.proofs.LastStage.{choice-in}
 use Rattle.header.proofs.LeafLaws.{same-members, in-or, reach-lt, in-common, in-single, singles-at, joined-reach}
@@ -73,13 +73,13 @@ module _ (far : ℕ → ℕ → Far) (size : ℕ) (mask : ℕ → ℕ) where
       unfolding best
       best-alike zero = refl
       best-alike (suc n) = ap (widest 256) (fun_ext (λ w.
-          pick (choice w (common size mask a)) (best far size mask n (reach far size a w)) (best far size mask n (reach far size b w)) none
+          pick (choice w (common size mask a)) (best far size mask n (reach far size a w)) (best far size mask n (reach far size b w)) None
           (λ t. ap (best far size mask n) (reach-alike w t))
-          ∙ ap (λ (c : ℕ). cond (choice w c) (best far size mask n (reach far size b w)) none) h.commons))
+          ∙ ap (λ (c : ℕ). cond (choice w c) (best far size mask n (reach far size b w)) None) h.commons))
 
       pub found_alike : (n k : ℕ) → found_of far size mask a n k ≡ found_of far size mask b n k
       unfolding found_of
-      found_alike n k = ap₂ (λ (x : ℕ) (y : Option (List ℕ)). cond (ltb k x) over_budget (found y x)) (tries-alike (n - 1)) (best-alike n)
+      found_alike n k = ap₂ (λ (x : ℕ) (y : Option (List ℕ)). cond (leb x k) (Some (found y x)) None) (tries-alike (n - 1)) (best-alike n)
 
     -- ---- joined
 

@@ -55,13 +55,16 @@ pub choice-part : (w c : ℕ) → T (choice w c) → within w c ≡ true
 unfolding choice
 choice-part w c h = true-T (within w c) (T_and (ltb 0 w) (within w c) h).1
 
-pub none-part : (c : ℕ) → within 0 c ≡ true
+pub none_part : (c : ℕ) → within 0 c ≡ true
 unfolding within
-none-part c = true-T (eqb (bit_and 0 c) 0) (eq-T (bit_and 0 c) 0 (and_zero_l c))
+none_part c = true-T (eqb (bit_and 0 c) 0) (eq-T (bit_and 0 c) 0 (and_zero_l c))
 
-pub part-le : (w c : ℕ) → within w c ≡ true → w ≤ c
+pub part_le : (w c : ℕ) → within w c ≡ true → w ≤ c
 unfolding within
-part-le w c e = le_trans (le_of_eq (sym (eqb→eq (bit_and w c) w (T_true e)))) (and_le_r w c)
+part_le w c e = le_trans (le_of_eq (sym (eqb→eq (bit_and w c) w (T_true e)))) (and_le_r w c)
+
+pub part_and : (a c : ℕ) → within (bit_and a c) c ≡ true
+part_and a c = true-T (within (bit_and a c) c) ((in_within (bit_and a c) c).1 (λ s h. (T_and (has s a) (has s c) (subst T (has-and s a c) h)).1))
 
 -- ---- the step
 
@@ -78,9 +81,9 @@ least-choice v c x low high none hit =
 
 module _ (w c : ℕ) (byte : c < 256) where
   -- all ports are the last choice
-  pub step-last : w ≡ c → 256 ≡ next_choice (w + 1) c
-  step-last e = least-choice (w + 1) c 256 (omega arith) (le_refl 256)
-      (λ u l _ h. let k = part-le u c (choice-part u c h) in omega arith) (λ h. absurd (omega arith))
+  pub step_last : w ≡ c → next_choice (w + 1) c ≡ 256
+  step_last e = sym (least-choice (w + 1) c 256 (omega arith) (le_refl 256)
+      (λ u l _ h. let k = part_le u c (choice-part u c h) in omega arith) (λ h. absurd (omega arith)))
 
   module _ (part : within w c ≡ true) (more : w ≡ c → ⊥) where
     d : ℕ
@@ -90,7 +93,7 @@ module _ (w c : ℕ) (byte : c < 256) where
     unfolding within d
     filled v e =
         let i = eqb→eq (bit_and v c) v (T_true e) in
-        let p = parts 8 v c (255 - c) (let l = part-le v c e in omega arith) (omega arith) in
+        let p = parts 8 v c (255 - c) (let l = part_le v c e in omega arith) (omega arith) in
         or_disjoint v (255 - c) (omega arith)
 
     twice : (v : ℕ) → bit_or (bit_or v d) d ≡ bit_or v d
@@ -108,7 +111,7 @@ module _ (w c : ℕ) (byte : c < 256) where
     inside : (a ≡ w + 256 - c) × (bit_and a c + d ≡ bit_or a d)
     unfolding a d
     inside =
-        let l = part-le w c part in
+        let l = part_le w c part in
         let f = filled w part in
         let e : suc (bit_or w (255 - c)) ≡ w + 256 - c = omega arith in
         let p = parts 8 (suc (bit_or w (255 - c))) c (255 - c) (omega arith) (omega arith) in
@@ -126,15 +129,21 @@ module _ (w c : ℕ) (byte : c < 256) where
     first : (v : ℕ) → T (choice v c) → w < v → bit_and a c ≤ v
     unfolding a d
     first v h l =
-        let k = part-le v c (choice-part v c h) in
+        let k = part_le v c (choice-part v c h) in
         let f = filled w part in
         let g = filled v (choice-part v c h) in
         let i = carry 8 (255 - c) (bit_or w (255 - c)) (bit_or v (255 - c)) (omega arith) (twice w) (twice v) (omega arith) in
         omega (arith, inside.1)
 
-    pub step-next : bit_and (w + 256 - c) c ≡ next_choice (w + 1) c
+    -- as the code makes it, modulo 256
+    wraps : a ≡ (w + (256 - c)) % 256
+    wraps = let l = part_le w c part in inside.0 ∙ (let e : w + 256 - c ≡ (w + (256 - c)) % 256 = omega arith in e)
+
+    pub goes_on : c - bit_and ((w + (256 - c)) % 256) c < c - w
+    goes_on = let l : w < bit_and ((w + (256 - c)) % 256) c = subst (λ (x : ℕ). w < bit_and x c) wraps above in let r = and_le_r ((w + (256 - c)) % 256) c in omega arith
+
+    pub step_next : bit_and ((w + (256 - c)) % 256) c ≡ next_choice (w + 1) c
     unfolding choice
-    step-next = subst (λ (x : ℕ). bit_and x c ≡ next_choice (w + 1) c) inside.0 (least-choice (w + 1) c (bit_and a c)
+    step_next = subst (λ (x : ℕ). bit_and x c ≡ next_choice (w + 1) c) wraps (least-choice (w + 1) c (bit_and a c)
         (omega (arith, above)) (let m = and_le_r a c in omega arith) (λ u l k h. let m = first u h (omega arith) in omega arith)
-        (λ _. and_i (ltb 0 (bit_and a c)) (within (bit_and a c) c) (lt→ltb 0 (bit_and a c) (omega (arith, above)))
-        ((in_within (bit_and a c) c).1 (λ s h. (T_and (has s a) (has s c) (subst T (has-and s a c) h)).1))))
+        (λ _. and_i (ltb 0 (bit_and a c)) (within (bit_and a c) c) (lt→ltb 0 (bit_and a c) (omega (arith, above))) (T_true (part_and a c))))

@@ -17,7 +17,8 @@ use Rattle.rules.specs.Net.{Far}
 use Rattle.rules.specs.Tries.{common, reach}
 use Rattle.rules.proofs.Lists.{length-tabulate}
 use Rattle.header.specs.Search.{singles, Alike, Grouped}
-use Rattle.header.proofs.LeafLaws.{in-common, common-size}
+use Rattle.header.proofs.LeafLaws.{in-common, common-size, one-bit}
+use lib.Bits.{bit_and}
 use Rattle.header.proofs.AlikeLaws.{alike_self, alike-on, single-lt}
 
 -- ---- two sets compared, port by port
@@ -37,13 +38,13 @@ module _ {far : ℕ → ℕ → Far} {size a b c : ℕ} where
     pub same_in : {u v : ℕ} → u ≡ reach far size a (2 ^ p) → v ≡ reach far size b (2 ^ p) → u ≡ v → ReachSame far size a b c (p + 1)
     same_in i j e = same_more (λ _. sym i ∙ e ∙ j)
 
-    pub same_out : (c / 2 ^ p % 2 ≡ 1 → ⊥) → ReachSame far size a b c (p + 1)
+    pub same_out : (bit_and (c / 2 ^ p) 1 ≡ 1 → ⊥) → ReachSame far size a b c (p + 1)
     unfolding has
-    same_out o = same_more (λ t. absurd (o (eqb→eq (c / 2 ^ p % 2) 1 t)))
+    same_out o = same_more (λ t. absurd (o (one-bit c p ∙ eqb→eq (c / 2 ^ p % 2) 1 t)))
 
-    pub same-all : (mask : ℕ → ℕ) {d : ℕ} → size ≤ 64 → a < 2 ^ size → b < 2 ^ size → c ≡ common 64 mask a → d ≡ common 64 mask b → d ≡ c
+    pub same_all : (mask : ℕ → ℕ) {d : ℕ} → size ≤ 64 → a < 2 ^ size → b < 2 ^ size → c ≡ common 64 mask a → d ≡ common 64 mask b → d ≡ c
         → 8 ≤ p → Alike far size mask a b
-    same-all mask k i j e f g l =
+    same_all mask k i j e f g l =
         let ports : c ≡ common size mask a = e ∙ common-size size mask a i k in
         record {
           commons = sym ports ∙ sym g ∙ f ∙ common-size size mask b j k;
@@ -59,9 +60,9 @@ module _ (far : ℕ → ℕ → Far) (size : ℕ) (mask : ℕ → ℕ) where
     pub group : Grouped far size mask m c sets
     pub bound : first < 2 ^ size
 
-  pub grouping-start : {m c : ℕ} {sets : List ℕ} → sets ≡ singles far size m c → Grouping m c sets 0
+  pub grouping_start : {m c : ℕ} {sets : List ℕ} → sets ≡ singles far size m c → Grouping m c sets 0
   unfolding singles
-  grouping-start {m} {c} e = subst (λ (x : List ℕ). Grouping m c x 0) (sym e) (record {
+  grouping_start {m} {c} e = subst (λ (x : List ℕ). Grouping m c x 0) (sym e) (record {
     eight = length-tabulate 8 (λ p. cond (has p c) (reach far size m (2 ^ p)) 0);
     group = record { inside = single-lt far size mask m c; alike = λ p l. alike_self far size mask (get_or (singles far size m c) p 0) };
     bound = pow_pos size;
@@ -76,8 +77,8 @@ module _ (far : ℕ → ℕ → Far) (size : ℕ) (mask : ℕ → ℕ) where
             (subst (λ (x : ℕ). P p x) (sym (get_or-set_same sets p first 0 (let e = g.eight in omega arith))) h)
         at (no z) = subst (λ (x : ℕ). P q x) (sym (get_or-set_other sets p q first 0 z)) (f q k)
 
-    pub grouping-put : {now : ℕ} {after : List ℕ} → Alike far size mask first (get_or sets p 0) → after ≡ set sets p first → now ≡ first → Grouping m c after now
-    grouping-put {now} {after} h e f = subst (λ (x : ℕ). Grouping m c after x) (sym f) (subst (λ (x : List ℕ). Grouping m c x first) (sym e) (record {
+    pub grouping_put : {now : ℕ} {after : List ℕ} → Alike far size mask first (get_or sets p 0) → after ≡ set sets p first → now ≡ first → Grouping m c after now
+    grouping_put {now} {after} h e f = subst (λ (x : ℕ). Grouping m c after x) (sym f) (subst (λ (x : List ℕ). Grouping m c x first) (sym e) (record {
       eight = length-set sets p first ∙ g.eight;
       group = record {
         inside = put-at (λ q x. x < 2 ^ size) g.bound g.group.inside;
@@ -86,12 +87,12 @@ module _ (far : ℕ → ℕ → Far) (size : ℕ) (mask : ℕ → ℕ) where
       bound = g.bound;
     }))
 
-    pub grouping-next : {now : ℕ} {after : List ℕ} → after ≡ sets → now ≡ get_or sets p 0 → Grouping m c after now
-    grouping-next {now} e f = subst (λ (x : List ℕ). Grouping m c x now) (sym e) (record {
+    pub grouping_next : {now : ℕ} {after : List ℕ} → after ≡ sets → now ≡ get_or sets p 0 → Grouping m c after now
+    grouping_next {now} e f = subst (λ (x : List ℕ). Grouping m c x now) (sym e) (record {
       eight = g.eight;
       group = g.group;
       bound = subst (λ (x : ℕ). x < 2 ^ size) (sym f) (g.group.inside p l);
     })
 
-  pub grouping-same : {m c first now : ℕ} {sets after : List ℕ} → Grouping m c sets first → after ≡ sets → now ≡ first → Grouping m c after now
-  grouping-same {m} {c} {first} {now} {sets} {after} g e f = subst (λ (x : ℕ). Grouping m c after x) (sym f) (subst (λ (x : List ℕ). Grouping m c x first) (sym e) g)
+  pub grouping_same : {m c first now : ℕ} {sets after : List ℕ} → Grouping m c sets first → after ≡ sets → now ≡ first → Grouping m c after now
+  grouping_same {m} {c} {first} {now} {sets} {after} g e f = subst (λ (x : ℕ). Grouping m c after x) (sym f) (subst (λ (x : List ℕ). Grouping m c x first) (sym e) g)

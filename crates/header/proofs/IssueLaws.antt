@@ -5,11 +5,9 @@ use mathlib.Core.Path.{◌≡◌, refl, sym, ap, ◌∙◌, subst, subst₂}
 use mathlib.Core.Bool.{Bool, cond}
 use mathlib.Core.List.{List, [], ◌∷◌, ◌++◌}
 use lib.ListN.{length, drop, replicate}
-use Rattle.rules.specs.declared.Judgement.{Judgement}
-use Rattle.rules.specs.declared.Answer.{Answer}
-use Rattle.rules.specs.declared.TestAnswer.{TestAnswer}
-use Rattle.rules.specs.declared.Verdict.{Verdict}
-use Rattle.rules.specs.declared.Verdict.TheVariants.{Neither, No, Yes}
+use Rattle.std.specs.Prelude.{Err}
+use Rattle.rules.specs.declared.Refusal.{Refusal}
+use Rattle.rules.specs.Answers.{Judgement, Answer, TestAnswer, Verdict, Neither, No, Yes, judged, issued, tested}
 use Rattle.rules.specs.Header.{permits}
 use Rattle.rules.specs.Table.{Sizes}
 use Rattle.rules.specs.Refusals.{most_hops}
@@ -22,7 +20,7 @@ use Rattle.rules.specs.Promise.{Judged, Issued, Tested}
 use Rattle.rules.proofs.Kept.{issued-met, tested-met}
 use Rattle.rules.proofs.Says.{refused-false, first-stop, first_past, answered-accepted, answered-refused, kept-accepted, kept-refused}
 use Rattle.wiring.proofs.Found.{judge-refuses, judge-is, judge-number}
-use Rattle.ways.proofs.PairLaws.{bare, judged-first, five}
+use Rattle.ways.proofs.PairLaws.{bare, refuses, judged-first, five}
 
 module _ (z : Sizes) (t : List ℕ) (a d : ℕ) where
   -- ---- header issue
@@ -94,19 +92,19 @@ module _ (z : Sizes) (t : List ℕ) (a d : ℕ) where
     test-refused h = ap saying (judge-refuses z t (look_apart z t a d (look7 z t a d ∷ [])) h) ∙ test-bare (judge_of z t) h
 
   -- ---- the ways out of `issue` and `test`: the judge, and then the pair
-  module _ {j : Judgement} (h : Judged z t j) where
-    pub issued-refused : (out : List ℕ) {r : Answer} → ¬ (j.number ≡ 0) → r ≡ bare j → Issued z t a d out r out
-    issued-refused out n e =
-        let m = issue-refused out (λ k. n (judge-number z t h ∙ k)) in
-        subst₂ (Issued z t a d out) (m.0 ∙ sym (e ∙ ap bare (judge-is z t h))) m.1 (issued-met z t a d out)
 
+  pub issued-refused : (out : List ℕ) (e : Refusal) → Judged z t (judged {A = Unit {0}} (Err e)) → Issued z t a d out (issued (Err e)) out
+  issued-refused out e h =
+      let m = issue-refused out (refuses z t e h) in subst₂ (Issued z t a d out) (m.0 ∙ ap bare (sym (judge-is z t h))) m.1 (issued-met z t a d out)
+
+  pub tested-refused : (ws : List ℕ) (e : Refusal) → Judged z t (judged {A = Unit {0}} (Err e)) → Tested z t a d ws (tested (Err e))
+  tested-refused ws e h =
+      subst (Tested z t a d ws) (test-refused ws (refuses z t e h) ∙ ap (λ (j : Judgement). record { answer = bare j; says = Neither }) (sym (judge-is z t h))) (tested-met z t a d ws)
+
+  module _ {j : Judgement} (h : Judged z t j) where
     pub issued-given : (out : List ℕ) {r : Answer} {o : List ℕ} → j.number ≡ 0 → (r ≡ issue_pair z t a d out) × (o ≡ issue_pair_memory z t a d out) → Issued z t a d out r o
     issued-given out n e =
         let m = issue-judged out (sym (judge-number z t h) ∙ n) in subst₂ (Issued z t a d out) (m.0 ∙ sym e.0) (m.1 ∙ sym e.1) (issued-met z t a d out)
-
-    pub tested-refused : (ws : List ℕ) {r : TestAnswer} {b : Answer} → ¬ (j.number ≡ 0) → b ≡ bare j → r ≡ record { answer = b; says = Neither } → Tested z t a d ws r
-    tested-refused ws n f e =
-        subst (Tested z t a d ws) (test-refused ws (λ k. n (judge-number z t h ∙ k)) ∙ sym (e ∙ ap (λ (x : Answer). record { answer = x; says = Neither }) (f ∙ ap bare (judge-is z t h)))) (tested-met z t a d ws)
 
     pub tested-given : (ws : List ℕ) {r : TestAnswer} → j.number ≡ 0 → r ≡ test_pair z t a d ws → Tested z t a d ws r
     tested-given ws n e = subst (Tested z t a d ws) (test-judged ws (sym (judge-number z t h) ∙ n) ∙ sym e) (tested-met z t a d ws)

@@ -1,13 +1,15 @@
 -- The last stage of the search takes all common ports: a smaller choice among them has fewer ones. Assumes nothing.
-use Prim.Native.Nat.{ℕ, zero, ◌*◌, ◌≤◌, ◌<◌}
+use Prim.Native.Nat.{ℕ, zero, ◌*◌, ◌≤◌, ◌<◌, zero-le}
+use borrow.Author.Tests.{le-leb}
 use native.Mathlib.Nat.{le_of_eq, mul-one, lt_of_not-le, pos_of_ne-zero}
 use native.Mathlib.Omega.{arith}
 use mathlib.Core.Path.{◌≡◌, refl, sym, ap, subst}
 use mathlib.Core.Logic.{inr, ⊎_elim}
 use mathlib.Core.Bool.{Bool, true, false, cond}
 use mathlib.Core.List.{List, [], ◌∷◌}
-use mathlib.Core.Option.{Option, none, some}
-use lib.Dec.{T, ltb, eqb, ltb→lt, lt→ltb, eqb→eq, leb-suc-zero}
+use Rattle.std.specs.Prelude.{Option, None, Some}
+use lib.Dec.{T, ltb, eqb, ltb→lt, lt→ltb, eqb→eq}
+use Rattle.std.specs.Prelude.{Some}
 use lib.ListN.{set, replicate}
 use lib.Count.{ones, ones_in}
 use Rattle.rules.specs.Sets.{has, within, count}
@@ -41,10 +43,10 @@ choice-all c h = and_i (ltb 0 c) (within c c) (lt→ltb 0 c h) ((in_within c c).
 
 answers_one : (P : List ℕ → Type 0) (r q : Option (List ℕ)) → Answers P r → Answers P q → r ≡ q
 unfolding Answers
-answers_one P none none h k = refl
-answers_one P none (some q) h k = absurd (h q k.one)
-answers_one P (some r) none h k = absurd (k r h.one)
-answers_one P (some r) (some q) h k = ap (λ (x : List ℕ). some x) (best-one h k)
+answers_one P None None h k = refl
+answers_one P None (Some q) h k = absurd (h q k.one)
+answers_one P (Some r) None h k = absurd (k r h.one)
+answers_one P (Some r) (Some q) h k = ap (λ (x : List ℕ). Some x) (best-one h k)
 
 module _ (c : ℕ) (byte : c < 256) where
   fewer : (w : ℕ) → w < 256 → T (choice w c) → ones w ≤ ones c
@@ -69,7 +71,7 @@ module _ (c : ℕ) (byte : c < 256) where
   unfolding One
   one-some w ws h = choice-some w c h.0
 
-  one-rest : (w : ℕ) (b : Bool) → choice w c ≡ b → Answers (λ ws. One (w ∷ ws)) (cond b (some []) none)
+  one-rest : (w : ℕ) (b : Bool) → choice w c ≡ b → Answers (λ ws. One (w ∷ ws)) (cond b (Some []) None)
   unfolding Answers One Before
   one-rest w true e = record { one = (T_true e, refl); most = λ g h. le_of_eq (ap permits h.1); first = λ g h i. tt }
   one-rest w false e = λ ws h. subst T e h.0
@@ -95,30 +97,30 @@ module _ (c : ℕ) (byte : c < 256) where
           let f : ones w * 1 ≡ ones c * 1 = subst (λ (x : List ℕ). ones w * permits x ≡ ones c * 1) h.1.1 e in
           inr (sym (all_of w h.0 h.1.0 (omega arith)), tt)
 
-  last-answers : (b : Bool) → eqb c 0 ≡ b → Answers (Under One 256) (cond b none (some (c ∷ [])))
+  last-answers : (b : Bool) → eqb c 0 ≡ b → Answers (Under One 256) (cond b None (Some (c ∷ [])))
   unfolding Answers
   last-answers true e = one_none (eqb→eq c 0 (T_true e))
   last-answers false e = one-best (pos_of_ne-zero (λ z. subst T e (eq-T c 0 z)))
 
-  pub widest-last : widest 256 (λ w. cond (choice w c) (some []) none) ≡ cond (eqb c 0) none (some (c ∷ []))
+  pub widest-last : widest 256 (λ w. cond (choice w c) (Some []) None) ≡ cond (eqb c 0) None (Some (c ∷ []))
   widest-last =
-      answers_one (Under One 256) (widest 256 (λ w. cond (choice w c) (some []) none)) (cond (eqb c 0) none (some (c ∷ [])))
-      (answers-widest One one-some (λ w. cond (choice w c) (some []) none) (λ w. one-rest w (choice w c) refl) 256)
+      answers_one (Under One 256) (widest 256 (λ w. cond (choice w c) (Some []) None)) (cond (eqb c 0) None (Some (c ∷ [])))
+      (answers-widest One one-some (λ w. cond (choice w c) (Some []) None) (λ w. one-rest w (choice w c) refl) 256)
       (last-answers (eqb c 0) refl)
 
-found-one : (c : ℕ) (b : Bool) → eqb c 0 ≡ b → found (cond b none (some (c ∷ []))) 0 ≡ last_found c
+found-one : (c : ℕ) (b : Bool) → eqb c 0 ≡ b → found (cond b None (Some (c ∷ []))) 0 ≡ last_found c
 unfolding found words_in count_in permits ones ones_in
-found-one c true e = subst (λ (x : ℕ). found none 0 ≡ last_found x) (sym (eqb→eq c 0 (T_true e))) refl
+found-one c true e = subst (λ (x : ℕ). found None 0 ≡ last_found x) (sym (eqb→eq c 0 (T_true e))) refl
 found-one c false e = ap (λ (k : ℕ). one_word k) (mul-one (ones c))
   where
     one_word : ℕ → Found
-    one_word k = record { words = set (replicate 8 0) 7 c; count = k; tries = 0; over = false }
+    one_word k = record { words = set (replicate 8 0) 7 c; count = k; tries = 0 }
 
 module _ (far : ℕ → ℕ → Far) (size : ℕ) (mask : ℕ → ℕ) (m : ℕ) where
-  pub best-last : best far size mask 1 m ≡ cond (eqb (common size mask m) 0) none (some (common size mask m ∷ []))
+  pub best-last : best far size mask 1 m ≡ cond (eqb (common size mask m) 0) None (Some (common size mask m ∷ []))
   unfolding best
   best-last = widest-last (common size mask m) (common-byte size mask m)
 
-  pub found-last : (k : ℕ) → found_of far size mask m 1 k ≡ last_found (common size mask m)
+  pub found-last : (k : ℕ) → found_of far size mask m 1 k ≡ Some (last_found (common size mask m))
   unfolding found_of tries
-  found-last k = rw (leb-suc-zero k, best-last) (found-one (common size mask m) (eqb (common size mask m) 0) refl)
+  found-last k = let e = le-leb 0 k zero-le in rw (e, best-last) (ap Some (found-one (common size mask m) (eqb (common size mask m) 0) refl))

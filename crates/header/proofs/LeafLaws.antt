@@ -11,7 +11,8 @@ use mathlib.Core.Bool.{Bool, true, false, cond, ◌||◌, not}
 use mathlib.Core.List.{List}
 use lib.Dec.{T, eqb→eq, eqb_refl}
 use lib.ListN.{get_or}
-use lib.Bits.{bit_or}
+use lib.Bits.{bit_and, bit_or}
+use Rattle.std.proofs.lemmas.Nat.Bits.{shr_and_one}
 use lib.Pow.{pow_mono}
 use Rattle.rules.specs.Sets.{has, all}
 use Rattle.rules.specs.Net.{Far, switch, Wired}
@@ -32,8 +33,8 @@ in-or a b s = (
 )
 
 -- a member of a number of n digits is below n
-pub member-lt : (n m s : ℕ) → m < 2 ^ n → T (has s m) → s < n
-member-lt n m s l h = lt_of_not-le (λ k. subst T (has-small s n m l k) h)
+pub member_lt : (n m s : ℕ) → m < 2 ^ n → T (has s m) → s < n
+member_lt n m s l h = lt_of_not-le (λ k. subst T (has-small s n m l k) h)
 
 -- ---- the ports common to a set
 
@@ -42,7 +43,7 @@ pub in-common : (size : ℕ) (mask : ℕ → ℕ) (m p : ℕ) → m < 2 ^ size
 unfolding common
 in-common size mask m p l = (
   λ h. let i = (in-set_of 8 (λ p. all size (at p)) p).0 h in
-      (i.0, λ s k. (T-if (has s m) (has p (mask s))).0 (all-at size (at p) i.1 s (member-lt size m s l k)) k),
+      (i.0, λ s k. (T-if (has s m) (has p (mask s))).0 (all-at size (at p) i.1 s (member_lt size m s l k)) k),
   λ h. (in-set_of 8 (λ p. all size (at p)) p).1 (h.0, all_yes size (at p) (λ s _. (T-if (has s m) (has p (mask s))).1 (h.1 s))),
 )
   where
@@ -120,12 +121,16 @@ module _ (far : ℕ → ℕ → Far) (size : ℕ) (wired : Wired far size) where
             ((in-single m r.by t).1 (r.«from», r.there, r.link)),
       ))
 
+-- the bit of a port, as the code reads it
+pub one-bit : (c p : ℕ) → bit_and (c / 2 ^ p) 1 ≡ c / 2 ^ p % 2
+one-bit c p = shr_and_one c p
+
 -- one port more
 module _ (sets : List ℕ) (w k : ℕ) {m : ℕ} (sofar : m ≡ joined sets w k) where
-  pub joined_in : w / 2 ^ k % 2 ≡ 1 → bit_or m (get_or sets k 0) ≡ joined sets w (k + 1)
+  pub joined_in : bit_and (w / 2 ^ k) 1 ≡ 1 → bit_or m (get_or sets k 0) ≡ joined sets w (k + 1)
   unfolding joined has
-  joined_in e = rw (add-one, e, sofar)
+  joined_in e = let i = sym (one-bit w k) ∙ e in rw (add-one, i, sofar)
 
-  pub joined-out : (w / 2 ^ k % 2 ≡ 1 → ⊥) → m ≡ joined sets w (k + 1)
+  pub joined_out : (bit_and (w / 2 ^ k) 1 ≡ 1 → ⊥) → m ≡ joined sets w (k + 1)
   unfolding joined has
-  joined-out e = rw (add-one, ne_eqb (w / 2 ^ k % 2) 1 e) sofar
+  joined_out e = rw (add-one, ne_eqb (w / 2 ^ k % 2) 1 (λ i. e (one-bit w k ∙ i))) sofar

@@ -10,8 +10,7 @@ use mathlib.Core.List.{List, [], ◌∷◌}
 use lib.Dec.{T, eqb, ltb, nltb→le}
 use lib.ListN.{length, replicate}
 use lib.Pow.{pow-lt, shl_exact}
-use Rattle.rules.specs.declared.Judgement.{Judgement}
-use Rattle.rules.specs.declared.Answer.{Answer}
+use Rattle.rules.specs.Answers.{Judgement, Answer}
 use Rattle.ways.specs.declared.Pair.{Pair}
 use Rattle.rules.specs.Sets.{tabulate}
 use Rattle.rules.specs.Net.{Distance}
@@ -20,15 +19,17 @@ use Rattle.rules.specs.Refusals.{most_hops}
 use Rattle.rules.specs.Look.{Looked, pick, first, when}
 use Rattle.rules.specs.RunTable.{attached, home}
 use Rattle.rules.specs.RunPair.{distance, mask, look_apart, look7}
-use Rattle.ways.specs.Pairs.{look_long, pair_judgement, pair_of}
+use Rattle.std.specs.Prelude.{Ok}
+use Rattle.ways.specs.Pairs.{look_long, pair_judgement, PairAnswer, paired, pair_of}
 use Rattle.rules.proofs.SetLaws.{T_and}
-use Rattle.rules.proofs.Says.{first-zero, answered-zero, accepted-true}
+use Rattle.rules.proofs.Says.{first-zero, answered-zero, answered-number, accepted-true}
 use Rattle.rules.proofs.Ways.{never-zero}
 use Rattle.rules.proofs.Layers.{dist-cases, unreachable-is}
 use Rattle.rules.proofs.Tables.{far_of-wired}
 use Rattle.rules.proofs.Homes.{in-attached, home-is, port-of}
-use Rattle.ways.proofs.PairLaws.{five, pair-number}
-use Rattle.header.specs.Search.{Stages, Searches}
+use Rattle.wiring.proofs.Reading.{few_switches}
+use Rattle.ways.proofs.PairLaws.{five}
+use Rattle.header.specs.Search.{Searches}
 
 -- a row that gives none
 row-false : (k : ℕ) (b : Bool) (ls : List Looked) → zero < k → (first ((k, when b) ∷ ls)).number ≡ 0 → (b ≡ false) × ((first ls).number ≡ 0)
@@ -48,22 +49,22 @@ pub record Opened (t : List ℕ) (a d : ℕ) (p : Pair) : Type 0 where
   pub inside : home house t a < switches t
   pub near : distance house t a d ≤ 8
   pub dist : Distance (far_of house t) (home house t a) d (distance house t a d)
-  pub told : p.answer ≡ record { number = 0; place = 0; distance = distance house t a d; count = 0; tries = 0 }
+  pub told : p.distance ≡ distance house t a d
   pub from-home : p.home ≡ home house t a
   pub masks : p.masks ≡ tabulate 64 (mask house t a d)
   pub judged : pair_judgement house t a d ≡ record { number = 0; place = 0 }
 
-module _ (t : List ℕ) (a d : ℕ) {p : Pair} (is : p ≡ pair_of house t a d) where
-  pub opened : p.answer.number ≡ 0 → Opened t a d p
+module _ (t : List ℕ) (a d : ℕ) {p : Pair} (is : paired (Ok p) ≡ pair_of house t a d) where
+  pub opened : Opened t a d p
   unfolding pair_of pair_judgement distance
-  opened k = record {
+  opened = record {
     short = le_of 512 (length t) r1.0;
     inside = (port-of house t a (home house t a) stands.port stands.there).switch-in;
     near = le_of most_hops (distance house t a d) r7.0;
     dist = far;
-    told = ap (λ (x : Pair). x.answer) is ∙ answered-zero j (distance house t a d) (ap (λ (x : Judgement). x.place) z) n;
-    from-home = ap (λ (x : Pair). x.home) is ∙ ap (λ (b : Bool). cond b (home house t a) 0) (accepted-true j n);
-    masks = ap (λ (x : Pair). x.masks) is ∙ ap (λ (b : Bool). cond b (tabulate 64 (mask house t a d)) (replicate 64 0)) (accepted-true j n);
+    told = ap (λ (x : PairAnswer). x.answer.distance) is ∙ ap (λ (x : Answer). x.distance) (answered-zero j (distance house t a d) (ap (λ (x : Judgement). x.place) z) n);
+    from-home = ap (λ (x : PairAnswer). x.home) is ∙ ap (λ (b : Bool). cond b (home house t a) 0) (accepted-true j n);
+    masks = ap (λ (x : PairAnswer). x.masks) is ∙ ap (λ (b : Bool). cond b (tabulate 64 (mask house t a d)) (replicate 64 0)) (accepted-true j n);
     judged = z;
   }
     where
@@ -71,7 +72,7 @@ module _ (t : List ℕ) (a d : ℕ) {p : Pair} (is : p ≡ pair_of house t a d) 
       j = pair_judgement house t a d
 
       n : j.number ≡ 0
-      n = sym (pair-number house t a d is) ∙ k
+      n = sym (ap (λ (x : PairAnswer). x.answer.number) is ∙ answered-number j (distance house t a d) 0 0)
 
       z : j ≡ record { number = 0; place = 0 }
       z = first-zero (look_long house t a d ∷ look_apart house t a d (look7 house t a d ∷ [])) (five house t a d) n
@@ -108,8 +109,12 @@ module _ {t : List ℕ} {a d : ℕ} {p : Pair} (o : Opened t a d p) where
       let s = o.short in
       ap (λ (h : ℕ). 1 * 2 ^ h % 2 ^ 64) o.from-home ∙ shl_exact {a = 1} 1 (home house t a) 64 (omega arith) (omega arith) ∙ one-mul (2 ^ home house t a)
 
-  pub start-stages : Stages t (1 * 2 ^ p.home % 2 ^ 64)
-  start-stages = record { short = o.short; inside = subst (λ (m : ℕ). m < 2 ^ switches t) (sym start_is) (pow-lt o.inside) }
+  pub start-inside : 1 * 2 ^ p.home % 2 ^ 64 < 2 ^ switches t
+  start-inside = subst (λ (m : ℕ). m < 2 ^ switches t) (sym start_is) (pow-lt o.inside)
+
+  -- the table is a fabric
+  pub small : switches t ≤ 64
+  small = few_switches t o.short
 
   pub some-hops : 1 ≤ distance house t a d
   some-hops = ⊎_elim (λ e. absurd (never-zero (far_of house t) (subst (Distance (far_of house t) (home house t a) d) e o.dist))) (λ l. l) (eq-zero-or-pos (distance house t a d))
@@ -118,13 +123,9 @@ module _ {t : List ℕ} {a d : ℕ} {p : Pair} (o : Opened t a d p) where
   unfolding switches
   home-small = let e = o.from-home in let l = o.inside in let s = o.short in omega arith
 
-  -- n, the distance told, stages can be searched
-  module _ {n : ℕ} (e : n ≡ p.answer.distance) where
-    hops : n ≡ distance house t a d
-    hops = e ∙ ap (λ (r : Answer). r.distance) o.told
+  -- as many stages as the distance told can be searched
+  pub few-hops : p.distance ≤ 8
+  few-hops = let l = o.near in let h = o.told in omega arith
 
-    pub few-hops : n ≤ 8
-    few-hops = let l = o.near in let h = hops in omega arith
-
-    pub start-searches : Searches t (1 * 2 ^ p.home % 2 ^ 64) n
-    start-searches = record { stages = start-stages; some = let l = some-hops in let h = hops in omega arith; few = few-hops }
+  pub start-searches : Searches t (1 * 2 ^ p.home % 2 ^ 64) p.distance
+  start-searches = record { inside = start-inside; some = let l = some-hops in let h = o.told in omega arith; few = few-hops }

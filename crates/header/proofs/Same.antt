@@ -6,7 +6,7 @@ use native.Mathlib.Omega.{arith}
 use mathlib.Core.Path.{◌≡◌, refl, ap, ap₂, fun_ext}
 use mathlib.Core.Bool.{Bool, cond, ◌&&◌, ◌||◌, not}
 use mathlib.Core.List.{List, [], ◌∷◌}
-use mathlib.Core.Option.{Option, none}
+use Rattle.std.specs.Prelude.{Option, None}
 use Rattle.rules.specs.Sets.{has, all, set_of, sum}
 use Rattle.rules.specs.Net.{Far}
 use Rattle.rules.specs.Tries.{reach, common, choice, chooses, tries}
@@ -36,4 +36,4 @@ module _ (far : ℕ → ℕ → Far) (size : ℕ) (mask mask' : ℕ → ℕ) (sa
   pub best-same : (n m : ℕ) → best far size mask n m ≡ best far size mask' n m
   unfolding best
   best-same zero m = refl
-  best-same (suc n) m = ap (widest 256) (fun_ext (λ w. ap₂ (λ (c : ℕ) (r : Option (List ℕ)). cond (choice w c) r none) (common-same m) (best-same n (reach far size m w))))
+  best-same (suc n) m = ap (widest 256) (fun_ext (λ w. ap₂ (λ (c : ℕ) (r : Option (List ℕ)). cond (choice w c) r None) (common-same m) (best-same n (reach far size m w))))

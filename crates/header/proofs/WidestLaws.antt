@@ -8,10 +8,13 @@ use native.Mathlib.Omega.{arith}
 use mathlib.Core.Path.{◌≡◌, refl, sym, ap, ap₂, ◌∙◌, subst}
 use mathlib.Core.Logic.{⊎_elim}
 use mathlib.Core.Bool.{Bool, true, false, cond}
+use Rattle.std.specs.Prelude.{Some, None}
+use Rattle.std.specs.Prelude as prelude
+use Rattle.std.proofs.lemmas.Option.{cond_some, none-some}
 use mathlib.Core.List.{List}
-use mathlib.Core.Option.{Option, none}
-use borrow.Author.Tests.{ltb-true, ltb-false, lt-ltb, le-ltb}
-use lib.Dec.{T, ltb}
+use Rattle.std.specs.Prelude.{Option, None}
+use borrow.Author.Tests.{leb-true, leb-false, lt-leb, le-leb}
+use lib.Dec.{T, leb}
 use lib.Arith.{le-zero}
 use lib.Count.{ones, ones_in}
 use Rattle.rules.specs.Sets.{sum, least}
@@ -21,7 +24,7 @@ use Rattle.rules.specs.Run.{wider, put, widest, best}
 use Rattle.rules.proofs.SetLaws.{true-T, same-T, Least, least-is}
 use Rattle.rules.proofs.Counts.{sum-part}
 use Rattle.found.specs.declared.Found.{Found}
-use Rattle.found.specs.Found.{over_budget, last_found, wider_found}
+use Rattle.found.specs.Found.{last_found, wider_found}
 use Rattle.header.specs.Search.{words_in, count_in, found, found_of, next_choice}
 use Rattle.header.proofs.LastStage.{choice-some}
 use Rattle.header.proofs.Widths.{Fine, wider-none, wider-found}
@@ -47,12 +50,12 @@ next-is c w l = record {
     r = least-is (256 - w) (λ k. choice (w + k) c)
 
 abbrev pub tried : Found → ℕ → Found
-tried h k = record { words = h.words; count = h.count; tries = k; over = false }
+tried h k = record { words = h.words; count = h.count; tries = k }
 
 -- The words w with what is found after each and the tries that takes, over any such `f` and `t`.
 module _ (c : ℕ) (f : ℕ → Option (List ℕ)) (t : ℕ → ℕ) where
   abbrev pub tail : ℕ → Option (List ℕ)
-  tail w = cond (choice w c) (f w) none
+  tail w = cond (choice w c) (f w) None
 
   abbrev pub more : ℕ → ℕ
   more w = let r = suc (t w) in cond (choice w c) r 0
@@ -94,23 +97,23 @@ module _ (c : ℕ) (f : ℕ → Option (List ℕ)) (t : ℕ → ℕ) where
   turn-start budget = turn_on budget 1 0 (last_found 0) (omega arith) refl refl zero-le
 
   -- what the whole search finds
-  abbrev pub whole : ℕ → Found
-  whole budget = cond (ltb budget (sum 256 more)) over_budget (found (widest 256 tail) (sum 256 more))
+  abbrev pub whole : ℕ → prelude.Option Found
+  whole budget = cond (leb (sum 256 more) budget) (Some (found (widest 256 tail) (sum 256 more))) None
 
   -- what is found after the word w
-  abbrev pub rest : ℕ → ℕ → Found
-  rest budget w = cond (ltb budget (t w)) over_budget (found (f w) (t w))
+  abbrev pub rest : ℕ → ℕ → prelude.Option Found
+  rest budget w = cond (leb (t w) budget) (Some (found (f w) (t w))) None
 
   module _ (budget : ℕ) (h : Found) (k w : ℕ) (u : Turn budget h k w) where
     -- no word is left
-    pub end-at : 256 ≤ w → tried h k ≡ whole budget
+    pub end-at : 256 ≤ w → Some (tried h k) ≡ whole budget
     unfolding found
     end-at l =
         let e : w ≡ 256 = omega (arith, u.high) in
         let p = u.best-so-far ∙ ap (λ (x : ℕ). found (widest x tail) 0) e in
         let q = u.tries-so-far ∙ ap (λ (x : ℕ). sum x more) e in
-        let b = le-ltb budget (sum 256 more) (omega (arith, u.in-budget, q)) in
-        rw b (ap₂ tried p q)
+        let b = le-leb (sum 256 more) budget (omega (arith, u.in-budget, q)) in
+        rw b (ap₂ (λ (x : Found) (y : ℕ). Some (tried x y)) p q)
 
     module _ (l : w < 256) where
       sum-next : sum (suc w) more ≡ k + suc (t w)
@@ -121,46 +124,38 @@ module _ (c : ℕ) (f : ℕ → Option (List ℕ)) (t : ℕ → ℕ) where
       unfolding widest
       widest-next = let e = true-T (choice w c) (u.chosen l) in rw e
 
-      past : budget < k + suc (t w) → over_budget ≡ whole budget
+      past : budget < k + suc (t w) → whole budget ≡ None
       past b =
           let s = sum-part more (suc w) 256 l in
-          let e = lt-ltb budget (sum 256 more) (omega (arith, sum-next)) in rw e
+          let e = lt-leb (sum 256 more) budget (omega (arith, sum-next)) in rw e
 
       -- a try more is beyond the budget
-      pub full_at : k ≡ budget → over_budget ≡ whole budget
+      pub full_at : k ≡ budget → whole budget ≡ None
       full_at e = past (omega arith)
 
       module _ (room : k ≡ budget → ⊥) where
         -- what comes after the word is beyond what is left of it
-        pub over-at : (rest (budget - k - 1) w).over ≡ true → over_budget ≡ whole budget
-        unfolding found
-        over-at e = at (ltb (budget - k - 1) (t w)) refl e
+        pub over-at : rest (budget - k - 1) w ≡ None → whole budget ≡ None
+        over-at e = at (leb (t w) (budget - k - 1)) refl e
           where
-            at : (b : Bool) → ltb (budget - k - 1) (t w) ≡ b → (cond b over_budget (found (f w) (t w))).over ≡ true → over_budget ≡ whole budget
-            at true i j = past (let z = ltb-true (budget - k - 1) (t w) i in omega (arith, u.in-budget))
-            at false i j = let z : ◌≡◌ {A = ℕ} 0 1 = cc in absurd (omega arith)
+            at : (b : Bool) → leb (t w) (budget - k - 1) ≡ b → cond b (Some (found (f w) (t w))) None ≡ None → whole budget ≡ None
+            at true i j = absurd (none-some (found (f w) (t w)) (sym j))
+            at false i j = past (let z = leb-false (t w) (budget - k - 1) i in omega (arith, u.in-budget))
 
-        within : (rest (budget - k - 1) w).over ≡ false → (t w ≤ budget - k - 1) × (rest (budget - k - 1) w ≡ found (f w) (t w))
-        within e = at (ltb (budget - k - 1) (t w)) refl e
-          where
-            at : (b : Bool) → ltb (budget - k - 1) (t w) ≡ b → (cond b over_budget (found (f w) (t w))).over ≡ false
-                → (t w ≤ budget - k - 1) × (cond b over_budget (found (f w) (t w)) ≡ found (f w) (t w))
-            at true i j = let z : ◌≡◌ {A = ℕ} 0 1 = cc in absurd (omega arith)
-            at false i j = (ltb-false (budget - k - 1) (t w) i, refl)
-
-        pub take_at : (n : ℕ) → n < 8 → Fine n (f w) → (r : Found) → r ≡ rest (budget - k - 1) w → r.over ≡ false
-            → Turn budget (wider_found h r w (suc n)) (k + 1 + r.tries) (next_choice (w + 1) c)
+        pub take_at : (n : ℕ) → n < 8 → Fine n (f w) → (r : Found) → rest (budget - k - 1) w ≡ Some r
+            → Turn budget (wider_found h r w (suc n)) (k + (1 + r.tries)) (next_choice (w + 1) c)
         unfolding found
-        take_at n m s r p e =
-            let v = within (sym (ap (λ (x : Found). x.over) p) ∙ e) in
-            let q = p ∙ v.1 in
+        take_at n m s r e =
+            let v = cond_some (leb (t w) (budget - k - 1)) (found (f w) (t w)) r e in
+            let b = leb-true (t w) (budget - k - 1) v.0 in
+            let q = sym v.1 in
             let i : r.tries ≡ t w = ap (λ (x : Found). x.tries) q in
-            subst (λ (x : ℕ). Turn budget (wider_found h r w (suc n)) (k + 1 + r.tries) (next_choice x c)) (sym (add-one w))
-            (turn_on budget (suc w) (k + 1 + r.tries) (wider_found h r w (suc n)) l
+            subst (λ (x : ℕ). Turn budget (wider_found h r w (suc n)) (k + (1 + r.tries)) (next_choice x c)) (sym (add-one w))
+            (turn_on budget (suc w) (k + (1 + r.tries)) (wider_found h r w (suc n)) l
             (ap₂ (λ (x y : Found). wider_found x y w (suc n)) u.best-so-far q
             ∙ wider-found n (t w) w (widest w tail) (f w) m (choice-some w c (u.chosen l)) s
             ∙ ap (λ (x : Option (List ℕ)). found x 0) (sym widest-next))
-            (omega (arith, sum-next)) (omega (arith, u.in-budget, v.0)))
+            (omega (arith, sum-next)) (omega (arith, u.in-budget, b)))
 
 -- ---- in a network: from the set m, with `left` words to find, at least two
 
@@ -191,4 +186,4 @@ module _ (far : ℕ → ℕ → Far) (size : ℕ) (mask : ℕ → ℕ) (m left :
       let p = tries-step (left - 1) (omega arith) in
       let q = best-step left (omega arith) in
       subst (λ (x : ℕ). whole x after cost budget ≡ found_of far size mask m left budget) (sym e)
-      (sym (ap₂ (λ (k : ℕ) (r : Option (List ℕ)). cond (ltb budget k) over_budget (found r k)) p q))
+      (sym (ap₂ (λ (k : ℕ) (r : Option (List ℕ)). cond (leb k budget) (Some (found r k)) None) p q))

@@ -6,7 +6,7 @@ use native.Mathlib.Omega.{arith}
 use mathlib.Core.Path.{◌≡◌, refl, ap, ap₂, ◌∙◌}
 use mathlib.Core.Bool.{Bool, true, false, cond}
 use mathlib.Core.List.{List, ◌∷◌, ◌++◌}
-use mathlib.Core.Option.{Option, none, some}
+use Rattle.std.specs.Prelude.{Option, None, Some}
 use borrow.Author.Tests.{leb-true, leb-false, lt-ltb, le-ltb, le-leb, lt-leb}
 use lib.Dec.{ltb, leb, lit<}
 use lib.ListN.{length, set, replicate}
@@ -31,37 +31,37 @@ pub record Sized (n : ℕ) (ws : List ℕ) : Type 0 where
   pub few : permits ws ≤ 8 ^ n
 
 unfoldable pub Fine : ℕ → Option (List ℕ) → Type 0
-Fine n none = Unit {0}
-Fine n (some ws) = Sized n ws
+Fine n None = Unit {0}
+Fine n (Some ws) = Sized n ws
 
 fine-wider : (n : ℕ) (r q : Option (List ℕ)) → Fine n r → Fine n q → Fine n (wider r q)
 unfolding Fine wider
-fine-wider n none q h k = k
-fine-wider n (some r) none h k = h
-fine-wider n (some r) (some q) h k = at (ltb (permits r) (permits q))
+fine-wider n None q h k = k
+fine-wider n (Some r) None h k = h
+fine-wider n (Some r) (Some q) h k = at (ltb (permits r) (permits q))
   where
-    at : (b : Bool) → Fine n (cond b (some q) (some r))
+    at : (b : Bool) → Fine n (cond b (Some q) (Some r))
     at true = k
     at false = h
 
 fine-put : (n w : ℕ) (r : Option (List ℕ)) → zero < w → w < 256 → Fine n r → Fine (suc n) (put w r)
 unfolding Fine put permits
-fine-put n w none z l h = tt
-fine-put n w (some ws) z l h = record {
+fine-put n w None z l h = tt
+fine-put n w (Some ws) z l h = record {
   long = ap suc h.long;
   wide = mul-pos (ones_pos w z) h.wide;
   few = rw pow-succ' (mul-le-mul (ones-le 8 w l) h.few);
 }
 
-fine-widest : (n c : ℕ) (f : ℕ → Option (List ℕ)) → ((w : ℕ) → Fine n (f w)) → (k : ℕ) → k ≤ 256 → Fine (suc n) (widest k (λ w. cond (choice w c) (f w) none))
+fine-widest : (n c : ℕ) (f : ℕ → Option (List ℕ)) → ((w : ℕ) → Fine n (f w)) → (k : ℕ) → k ≤ 256 → Fine (suc n) (widest k (λ w. cond (choice w c) (f w) None))
 unfolding Fine widest put
 fine-widest n c f h zero l = tt
 fine-widest n c f h (suc k) l = fine-wider (suc n) (widest k tail) (put k (tail k)) (fine-widest n c f h k (omega arith)) (at (choice k c) refl)
   where
     tail : ℕ → Option (List ℕ)
-    tail w = cond (choice w c) (f w) none
+    tail w = cond (choice w c) (f w) None
 
-    at : (b : Bool) → choice k c ≡ b → Fine (suc n) (put k (cond b (f k) none))
+    at : (b : Bool) → choice k c ≡ b → Fine (suc n) (put k (cond b (f k) None))
     at true e = fine-put n k (f k) (choice-some k c (T_true e)) l (h k)
     at false e = tt
 
@@ -83,29 +83,29 @@ placed-put n w ws e l =
     let i : 8 - suc (length ws) ≡ 8 - suc n = omega arith in
     rw (j, i) (set_last (8 - suc n) w ws)
 
-pub wider-none : (h : Option (List ℕ)) → wider h none ≡ h
+pub wider-none : (h : Option (List ℕ)) → wider h None ≡ h
 unfolding wider
-wider-none none = refl
-wider-none (some h) = refl
+wider-none None = refl
+wider-none (Some h) = refl
 
 abbrev kept : List ℕ → ℕ → Found
-kept ws k = record { words = ws; count = k; tries = 0; over = false }
+kept ws k = record { words = ws; count = k; tries = 0 }
 
 -- the header of w before ws, as the code makes it
-put-found : (n w : ℕ) (ws : List ℕ) → n < 8 → Sized n ws → kept (set (placed ws) (8 - suc n) w) (permits ws * ones w) ≡ found (some (w ∷ ws)) 0
+put-found : (n w : ℕ) (ws : List ℕ) → n < 8 → Sized n ws → kept (set (placed ws) (8 - suc n) w) (permits ws * ones w) ≡ found (Some (w ∷ ws)) 0
 unfolding found words_in count_in permits
 put-found n w ws l s = ap₂ kept (placed-put n w ws s.long l) (mul_comm (permits ws) (ones w))
 
 -- the wider of two, of those kept and of those found
 wider-plain : (n k w : ℕ) (h r : Option (List ℕ)) → n < 8 → zero < w → Fine n r → wider_whole (found h 0) (found r k) w (suc n) ≡ found (wider h (put w r)) 0
 unfolding found words_in count_in Fine put wider permits
-wider-plain n k w h none l z s = let e = le-leb 0 (count_in h) zero-le in rw (zero-mul, e, wider-none)
-wider-plain n k w none (some ws) l z s =
+wider-plain n k w h None l z s = let e = le-leb 0 (count_in h) zero-le in rw (zero-mul, e, wider-none)
+wider-plain n k w None (Some ws) l z s =
     let e = lt-leb (permits ws * ones w) 0 (mul-pos s.wide (ones_pos w z)) in rw e (put-found n w ws l s)
-wider-plain n k w (some hs) (some ws) l z s = at (leb (permits ws * ones w) (permits hs)) refl
+wider-plain n k w (Some hs) (Some ws) l z s = at (leb (permits ws * ones w) (permits hs)) refl
   where
     at : (b : Bool) → leb (permits ws * ones w) (permits hs) ≡ b
-        → cond b (found (some hs) 0) (kept (set (placed ws) (8 - suc n) w) (permits ws * ones w)) ≡ found (wider (some hs) (some (w ∷ ws))) 0
+        → cond b (found (Some hs) 0) (kept (set (placed ws) (8 - suc n) w) (permits ws * ones w)) ≡ found (wider (Some hs) (Some (w ∷ ws))) 0
     at true e = let q = le-ltb (permits hs) (ones w * permits ws) (omega (arith, leb-true (permits ws * ones w) (permits hs) e)) in rw q
     at false e =
         let q = lt-ltb (permits hs) (ones w * permits ws) (omega (arith, leb-false (permits ws * ones w) (permits hs) e)) in rw q (put-found n w ws l s)
@@ -113,8 +113,8 @@ wider-plain n k w (some hs) (some ws) l z s = at (leb (permits ws * ones w) (per
 -- a count of at most 8 ^ 7 is not cut
 fine-small : (n k : ℕ) (r : Option (List ℕ)) → n < 8 → Fine n r → (found r k).count < 2 ^ 29
 unfolding Fine found count_in
-fine-small n k none l h = omega arith
-fine-small n k (some ws) l h = let m : 8 ^ n ≤ 8 ^ 7 = pow-le-pow_right {n = 8} (lit< tt) {j = 7} (le_of_suc-le-suc l) in omega (arith, h.few)
+fine-small n k None l h = omega arith
+fine-small n k (Some ws) l h = let m : 8 ^ n ≤ 8 ^ 7 = pow-le-pow_right {n = 8} (lit< tt) {j = 7} (le_of_suc-le-suc l) in omega (arith, h.few)
 
 pub wider-found : (n k w : ℕ) (h r : Option (List ℕ)) → n < 8 → zero < w → Fine n r → wider_found (found h 0) (found r k) w (suc n) ≡ found (wider h (put w r)) 0
 wider-found n k w h r l z s = wider-whole (found h 0) (found r k) w (suc n) (fine-small n k r l s) ∙ wider-plain n k w h r l z s

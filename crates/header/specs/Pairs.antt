@@ -4,11 +4,7 @@
 --   issue_pair, issue_pair_memory     header issue: the answer, and what the lent output then holds
 --   test_pair                       the header test
 use Rattle.std.specs.Prelude.{ℕ, ◌-◌, cond, List, [], ◌∷◌, ◌++◌, length, drop, replicate}
-use Rattle.rules.specs.declared.Judgement.{Judgement}
-use Rattle.rules.specs.declared.Answer.{Answer}
-use Rattle.rules.specs.declared.TestAnswer.{TestAnswer}
-use Rattle.rules.specs.declared.Verdict.{Verdict}
-use Rattle.rules.specs.declared.Verdict.TheVariants.{Neither, No, Yes}
+use Rattle.rules.specs.Answers.{Judgement, Answer, TestAnswer, Verdict, Neither, No, Yes}
 use Rattle.rules.specs.Header.{permits}
 use Rattle.rules.specs.Table.{Sizes}
 use Rattle.rules.specs.Refusals.{most_hops}

@@ -1,21 +1,18 @@
 -- What the search for the widest header gives, and its pieces. Assumes nothing.
 --
---   Stages t m, Searches t m n     a set of switches of a table of at most 64; and from 1 to 8 words to find
+--   Searches t m n                 a set of switches of the table, and from 1 to 8 words to find
 --   placed ws                      the words at the end of eight bytes
---   found_of .. m n k               the widest header of n words from the set m within k tries: the twin `best`, and 01's `tries`
---   Recalls .. n k                 what is kept of a search for n words: it is what any search from its set finds that is not over
---   Gives .. m n k r               r is what the search from m finds, and what is kept of the stage after it
+--   found_of .. m n k               the widest header of n words from the set m, None where it takes more than k tries: the twin `best`, and 01's `tries`
+--   Recalls .. n k                 what is kept of a search for n words, if anything is: what a search from its set finds
 --   next_choice w c                 the least choice among c that is not below w, or 256
+--   Leaves m s n                   s is a switch of the set m, and n has the others
 --   singles, joined                the sets that the ports of a word reach alone; those of a word's ports together
 --   Alike a b                      two sets that the search does not tell apart
 --   Grouped m c sets               for each port a set like the one that it reaches alone from m
-use Rattle.std.specs.Prelude.{ℕ, zero, suc, ◌+◌, ◌-◌, ◌^◌, ◌≤◌, ◌<◌, ◌≡◌, false, cond, List, ◌++◌, length, get_or, replicate, T, ltb}
-use Rattle.std.proofs.Math.Option.{Option, none, some}
+use Rattle.std.specs.Prelude.{ℕ, zero, suc, ◌+◌, ◌-◌, ◌^◌, ◌≤◌, ◌<◌, ◌≡◌, cond, List, ◌++◌, length, get_or, replicate, T, leb, Option, Some, None, IfSome, ◌↔◌}
 use Rattle.std.specs.Int.Bits.{bit_or}
 use Rattle.found.specs.declared.Found.{Found}
 use Rattle.found.specs.declared.Kept.{Kept}
-use Rattle.found.specs.declared.Sought.{Sought}
-use Rattle.found.specs.Found.{over_budget}
 use Rattle.rules.specs.Sets.{has, least, tabulate}
 use Rattle.rules.specs.Net.{Far}
 use Rattle.rules.specs.Header.{permits}
@@ -23,12 +20,8 @@ use Rattle.rules.specs.Tries.{choice, common, reach, tries}
 use Rattle.rules.specs.Run.{best}
 use Rattle.rules.specs.Table.{switches}
 
-pub record Stages (t : List ℕ) (m : ℕ) : Type 0 where
-  pub short : length t ≤ 512
-  pub inside : m < 2 ^ switches t
-
 pub record Searches (t : List ℕ) (m n : ℕ) : Type 0 where
-  pub stages : Stages t m
+  pub inside : m < 2 ^ switches t
   pub some : 1 ≤ n
   pub few : n ≤ 8
 
@@ -38,31 +31,30 @@ abbrev pub placed : List ℕ → List ℕ
 placed ws = replicate (8 - length ws) 0 ++ ws
 
 unfoldable pub words_in : Option (List ℕ) → List ℕ
-words_in none = replicate 8 0
-words_in (some ws) = placed ws
+words_in None = replicate 8 0
+words_in (Some ws) = placed ws
 
 unfoldable pub count_in : Option (List ℕ) → ℕ
-count_in none = 0
-count_in (some ws) = permits ws
+count_in None = 0
+count_in (Some ws) = permits ws
 
 unfoldable pub found : Option (List ℕ) → ℕ → Found
-found h k = record { words = words_in h; count = count_in h; tries = k; over = false }
+found h k = record { words = words_in h; count = count_in h; tries = k }
 
-unfoldable pub found_of : (ℕ → ℕ → Far) → ℕ → (ℕ → ℕ) → ℕ → ℕ → ℕ → Found
+unfoldable pub found_of : (ℕ → ℕ → Far) → ℕ → (ℕ → ℕ) → ℕ → ℕ → ℕ → Option Found
 found_of far size mask m n budget =
-    let k = tries far size mask (n - 1) m in cond (ltb budget k) over_budget (found (best far size mask n m) k)
+    let k = tries far size mask (n - 1) m in cond (leb k budget) (Some (found (best far size mask n m) k)) None
 
 -- ---- what is kept of it
 
-module _ (far : ℕ → ℕ → Far) (size : ℕ) (mask : ℕ → ℕ) where
-  abbrev pub Recalls : ℕ → Kept → Type 0
-  Recalls n k = k.found.over ≡ false → k.found ≡ found (best far size mask n k.set) (tries far size mask (n - 1) k.set)
-
-  pub record Gives (m n budget : ℕ) (r : Sought) : Type 0 where
-    pub is : r.found ≡ found_of far size mask m n budget
-    pub keeps : Recalls (n - 1) r.next
+abbrev pub Recalls : (ℕ → ℕ → Far) → ℕ → (ℕ → ℕ) → ℕ → Option Kept → Type 0
+Recalls far size mask n k = IfSome k (λ k. k.found ≡ found (best far size mask n k.set) (tries far size mask (n - 1) k.set))
 
 -- ---- its pieces
+
+pub record Leaves (m s n : ℕ) : Type 0 where
+  pub here : T (has s m)
+  pub others : (j : ℕ) → T (has j n) ↔ (T (has j m) × (j ≡ s → ⊥))
 
 unfoldable pub next_choice : ℕ → ℕ → ℕ
 next_choice w c = w + least (256 - w) (λ k. choice (w + k) c)

@@ -1,346 +1,317 @@
-// The header: the test of any header, the search for the widest one, and its issue. Sets of switches are 64-bit numbers.
+//! The header: the test of any header, the search for the widest one, and its issue. Sets of switches are 64-bit numbers. A table and two
+//! processors are three parameters of the public functions, as they are of the C calls.
 #![tactic(auto)]
 
-ghost use Rattle.std.specs.Prelude.{◌≡◌, true, cond, ◌+◌, ◌-◌, ◌^◌, ◌<◌, get_or};
+ghost use Rattle.std.specs.Prelude.{◌≡◌, true, ◌+◌, ◌-◌, ◌^◌, ◌<◌, MatchOption};
+ghost use Rattle.std.specs.Iterator.{at_most};
+ghost use Rattle.rules.specs.Answers.{issued, tested};
 ghost use Rattle.rules.specs.Sets.{within};
-ghost use Rattle.rules.specs.Table.{house, switches, far_of};
+ghost use Rattle.rules.specs.Table.{house};
 ghost use Rattle.rules.specs.Tries.{common, chooses, reach};
 ghost use Rattle.rules.specs.Promise.{Tested, Issued};
-ghost use Rattle.rules.specs.declared.Verdict.TheVariants.{No, Yes};
-ghost use Rattle.header.specs.Search.{next_choice, Searches, Stages, Recalls, Gives, Alike, Grouped, singles, joined, found_of};
+ghost use Rattle.header.specs.Search.{next_choice, Searches, Recalls, Alike, Grouped, singles, joined, found_of, Leaves};
+ghost use Rattle.header.specs.Nets.{far, size, mask};
 ghost use Rattle.header.specs.Pairs.{issue_pair, issue_pair_memory, test_pair};
 
-use found::{
-    Found, Kept, Sought, keep, last, must_search, none_kept, over_budget, recalled, total, wider,
-    write,
-};
-use rules::{Answer, Entry, TestAnswer, Verdict};
+use found::{Found, Kept, last, recalled, total, wider, within, write};
+use rules::{Entry, IssuedHeader, Refusal};
 use ways::mask_pair;
-use wiring::{entry, judge};
+use wiring::{Fabric, judge};
 
-// Issues the widest header of a pair into the first eight bytes of out.
-pub fn issue(table: &[u16], source: u64, target: u64, out: &mut [u8]) -> Answer
-    ensures { Issued house table.now source target out.old result out.new }
+/// Issues the widest header of a pair into the first eight bytes of `out`: its words, then zeros.
+pub fn issue(
+    table: &[u16],
+    source: u64,
+    target: u64,
+    out: &mut [u8],
+) -> Result<IssuedHeader, Refusal>
+    ensures { Issued house table.now source target out.old (issued result) out.new }
 {
-    let judged = judge(table);
-    if judged.number != 0 {
-        return refused(judged.number, judged.place);
-    }
+    judge(table)?;
     issue_pair(table, source, target, out)
 }
 
-// Header issue in a table that has been judged; on any other table it is what issue_pair of specs/Pairs says.
-pub fn issue_pair(table: &[u16], source: u64, target: u64, out: &mut [u8]) -> Answer
-    ensures { (result ≡ issue_pair house table.now source target out.old) × (out.new ≡ issue_pair_memory house table.now source target out.old) }
+/// Header issue in a table that has been judged; on any other table it is what issue_pair of specs/Pairs says.
+pub fn issue_pair(
+    table: &[u16],
+    source: u64,
+    target: u64,
+    out: &mut [u8],
+) -> Result<IssuedHeader, Refusal>
+    ensures answer { issued result ≡ issue_pair house table.now source target out.old }
+    ensures memory { out.new ≡ issue_pair_memory house table.now source target out.old }
 {
-    let pair = mask_pair(table, source, target);
-    let answer = pair.answer;
-    if answer.number != 0 {
-        return answer;
-    }
+    let pair = mask_pair(table, source, target)?;
     if out.len() < 8 {
-        return refused(8, 0);
+        return Err(Refusal::ShortOutput);
     }
-    let masks = pair.masks;
-    let home = pair.home;
-    let n = wide(answer.distance);
-    let found = widest(table, &masks, 1u64 << home, n, 65536);
-    if found.over {
-        return refused(9, 0);
-    }
-    let words = found.words;
-    write(words, n, out);
-    Answer {
-        number: 0,
-        place: 0,
-        distance: answer.distance,
+    let hops = pair.distance as usize;
+    let fabric = Fabric { table };
+    let net = Net {
+        fabric,
+        masks: &pair.masks,
+    };
+    let Some(found) = widest(&net, 1 << pair.home, hops, 65536) else {
+        return Err(Refusal::TooManyTries);
+    };
+    write(&found.words[8 - hops..], out);
+    Ok(IssuedHeader {
+        distance: pair.distance,
         count: found.count,
         tries: found.tries,
-    }
+    })
 }
 
-// The header test of a pair.
-pub fn test(table: &[u16], source: u64, target: u64, header: &[u8]) -> TestAnswer
-    ensures { Tested house table.now source target header.now result }
+/// The header test of a pair: whether each list of ports that the header permits leads to the target in the fewest hops.
+pub fn test(table: &[u16], source: u64, target: u64, header: &[u8]) -> Result<bool, Refusal>
+    ensures { Tested house table.now source target header.now (tested result) }
 {
-    let judged = judge(table);
-    if judged.number != 0 {
-        return said(refused(judged.number, judged.place), Verdict::Neither);
-    }
+    judge(table)?;
     test_pair(table, source, target, header)
 }
 
-// The header test in a table that has been judged; on any other table it is what test_pair of specs/Pairs says.
-pub fn test_pair(table: &[u16], source: u64, target: u64, header: &[u8]) -> TestAnswer
-    ensures { result ≡ test_pair house table.now source target header.now }
+/// The header test in a table that has been judged; on any other table it is what test_pair of specs/Pairs says.
+pub fn test_pair(table: &[u16], source: u64, target: u64, header: &[u8]) -> Result<bool, Refusal>
+    ensures { tested result ≡ test_pair house table.now source target header.now }
 {
-    let pair = mask_pair(table, source, target);
-    let answer = pair.answer;
-    if answer.number != 0 {
-        return said(answer, Verdict::Neither);
+    let pair = mask_pair(table, source, target)?;
+    if header.len() != pair.distance as usize {
+        return Ok(false);
     }
-    if header.len() != wide(answer.distance) {
-        return verdict(false);
-    }
-    let masks = pair.masks;
-    let home = pair.home;
-    verdict(stages_pass(table, &masks, 1u64 << home, header))
+    let fabric = Fabric { table };
+    let net = Net {
+        fabric,
+        masks: &pair.masks,
+    };
+    Ok(stages_pass(&net, 1 << pair.home, header))
 }
 
-fn refused(number: u8, place: usize) -> Answer
-    ensures { result ≡ record { number = number; place = place; distance = 0; count = 0; tries = 0 } }
-{
-    Answer {
-        number,
-        place,
-        distance: 0,
-        count: 0,
-        tries: 0,
-    }
-}
-
-// Yes or no, where nothing is refused: all parts of the answer are 0.
-fn verdict(passes: bool) -> TestAnswer
-    ensures { result ≡ record { answer = record { number = 0; place = 0; distance = 0; count = 0; tries = 0 }; says = cond passes Yes No } }
-{
-    let answer = refused(0, 0);
-    if passes {
-        return said(answer, Verdict::Yes);
-    }
-    said(answer, Verdict::No)
-}
-
-fn said(answer: Answer, says: Verdict) -> TestAnswer
-    ensures { result ≡ record { answer = answer; says = says } }
-{
-    TestAnswer { answer, says }
-}
-
-// Whether each word is a nonempty choice among the ports common to the masks of the set it meets.
-fn stages_pass(table: &[u16], masks: &[u8; 64], start: u64, header: &[u8]) -> bool
-    requires { Stages table.now start }
-    ensures { result ≡ chooses (far_of house table.now) (switches table.now) (λ s. get_or masks.now s 0) start header.now }
+/// Whether each word is a nonempty choice among the ports common to the masks of the set it meets.
+#[tactic(auto, using(crate::proofs::StageLaws::passing_empty, crate::proofs::StageLaws::passing_outside, crate::proofs::StageLaws::passing_all))]
+fn stages_pass(net: &Net, start: u64, header: &[u8]) -> bool
+    requires { start < 2 ^ size net.now }
+    ensures { result ≡ chooses (far net.now) (size net.now) (mask net.now) start header.now }
 {
     let mut set = start;
-    let mut i = 0;
-    while i < header.len() {
-        let w = header[i];
+    for &w in header {
         if w == 0 {
             return false;
         }
-        if w & common_of(masks, set) != w {
+        if w & net.common_of(set) != w {
             return false;
         }
-        let sets = by_port(table, set, w);
-        set = join(&sets, w);
-        i += 1;
+        set = join(&net.by_port(set, w), w);
     }
     true
 }
 
-// The widest header with `left` words from a set of switches.
-fn widest(table: &[u16], masks: &[u8; 64], set: u64, left: usize, budget: u32) -> Found
-    requires { Searches table.now set left }
-    ensures { result ≡ found_of (far_of house table.now) (switches table.now) (λ s. get_or masks.now s 0) set left budget }
+/// The widest header with `left` words from a set of switches, or None where its tries would pass the budget.
+fn widest(net: &Net, set: u64, left: usize, budget: u32) -> Option<Found>
+    requires { Searches net.now.fabric.table.now set left }
+    ensures { result ≡ found_of (far net.now) (size net.now) (mask net.now) set left budget }
 {
-    let sought = seek(table, masks, set, left, budget, none_kept());
-    sought.found
+    let mut kept = None;
+    net.seek(set, left, budget, &mut kept)
 }
 
-// The search for the widest header: each nonempty choice among the common ports is tried in rising order, and only a strictly wider header
-// replaces the best. Where a choice reaches the set that was searched last, what was found from it is recalled.
-fn seek(table: &[u16], masks: &[u8; 64], set: u64, left: usize, budget: u32, next: Kept) -> Sought
-    requires { Searches table.now set left × Recalls (far_of house table.now) (switches table.now) (λ s. get_or masks.now s 0) (left - 1) next }
-    ensures { Gives (far_of house table.now) (switches table.now) (λ s. get_or masks.now s 0) set left budget result }
-{
-    let ports = common_of(masks, set);
-    if left == 1 {
-        return keep(last(ports), next);
-    }
-    let sets = grouped(table, masks, set, ports);
-    let mut kept = next;
-    let mut below = none_kept();
-    let mut best = last(0);
-    let mut tries: u32 = 0;
-    let mut w = next_choice(0, ports);
-    while w < 256 {
-        if tries == budget {
-            return keep(over_budget(), kept);
+/// A fabric and the masks of its switches. That a set holds switches of the fabric alone is asked where it is needed: it is a fact of two values.
+#[derive(Clone, Copy)]
+struct Net<'t, 'm> {
+    fabric: Fabric<'t>,
+    masks: &'m [u8; 64],
+}
+
+impl Net<'_, '_> {
+    /// The search for the widest header: each nonempty choice among the common ports is tried in rising order, and only a strictly wider header
+    /// replaces the best. Where a choice reaches the set that was searched last, what was found from it is recalled; `kept` is what is kept of it,
+    /// from one call at a stage to the next.
+    fn seek(&self, set: u64, left: usize, budget: u32, kept: &mut Option<Kept>) -> Option<Found>
+        requires searches { Searches self.now.fabric.table.now set left }
+        requires recalls { Recalls (far self.now) (size self.now) (mask self.now) (left - 1) kept.old }
+        ensures is { result ≡ found_of (far self.now) (size self.now) (mask self.now) set left budget }
+        ensures recalls { Recalls (far self.now) (size self.now) (mask self.now) (left - 1) kept.new }
+    {
+        let ports = self.common_of(set);
+        if left == 1 {
+            return Some(last(ports));
         }
-        let word = byte(w);
-        let room = budget - tries - 1;
-        let reached = join(&sets, word);
-        if must_search(kept, reached) {
-            let sought = seek(table, masks, reached, left - 1, room, below);
-            let found = sought.found;
-            below = sought.next;
-            kept = Kept {
-                set: reached,
-                found,
+        let sets = self.grouped(set, ports);
+        let mut below = None;
+        let mut best = last(0);
+        let mut tries = 0;
+        for word in Choices::of(ports) {
+            if tries == budget {
+                return None;
+            }
+            let room = budget - tries - 1;
+            let reached = join(&sets, word);
+            let found = match recalled(*kept, reached) {
+                Some(found) => found,
+                None => {
+                    let found = self.seek(reached, left - 1, room, &mut below)?;
+                    *kept = Some(Kept {
+                        set: reached,
+                        found,
+                    });
+                    found
+                }
             };
+            let rest = within(found, room)?;
+            tries += 1 + rest.tries;
+            best = wider(best, rest, word, left);
         }
-        let rest = recalled(kept, room);
-        if rest.over {
-            return keep(over_budget(), kept);
+        total(best, tries, budget)
+    }
+
+    /// The ports common to the masks of all switches of the set.
+    #[tactic(auto, using(crate::proofs::ScanLaws::left_start, crate::proofs::ScanLaws::common_start, crate::proofs::ScanLaws::common_all))]
+    fn common_of(&self, set: u64) -> u8
+        ensures { result ≡ common 64 (mask self.now) set }
+    {
+        let mut ports = 255;
+        for s in Switches(set) {
+            ports &= self.masks[s];
         }
-        tries = tries + 1 + rest.tries;
-        best = wider(best, rest, word, left);
-        w = next_choice(w, ports);
+        ports
     }
-    keep(total(best, tries, budget), kept)
-}
 
-// The least choice among the ports above w, which is 0 or one of them; or 256. The bits outside the ports carry the added one on to the next port.
-fn next_choice(w: u16, ports: u8) -> u16
-    requires { within w ports ≡ true }
-    ensures { result ≡ next_choice (w + 1) ports }
-{
-    let all = short(ports);
-    if w == all {
-        return 256;
-    }
-    (w + 256 - all) & all
-}
-
-// The ports common to the masks of all switches of the set.
-fn common_of(masks: &[u8; 64], set: u64) -> u8
-    ensures { result ≡ common 64 (λ s. get_or masks.now s 0) set }
-{
-    let mut ports: u8 = 255;
-    let mut rest = set;
-    let mut s: usize = 0;
-    while rest != 0 {
-        let k = index(u64::trailing_zeros(rest));
-        s += k;
-        ports = ports & masks[s];
-        rest = (rest >> k) >> 1;
-        s += 1;
-    }
-    ports
-}
-
-// For each of the ports alone, the set that it reaches from the set; for the others the empty set.
-fn by_port(table: &[u16], set: u64, ports: u8) -> [u64; 8]
-    requires { Stages table.now set }
-    ensures { result ≡ singles (far_of house table.now) (switches table.now) set ports }
-{
-    let mut sets = [0u64; 8];
-    let mut p = 0;
-    while p < 8 {
-        if (ports >> p) % 2 == 1 {
-            sets[p] = follow(table, set, p);
-        }
-        p += 1;
-    }
-    sets
-}
-
-// For each of the ports a set from which the search goes on as from the one that the port alone reaches. Ports that follow each other and
-// are alike have the set of the first of them, so that it is searched once.
-fn grouped(table: &[u16], masks: &[u8; 64], set: u64, ports: u8) -> [u64; 8]
-    requires { Stages table.now set }
-    ensures { Grouped (far_of house table.now) (switches table.now) (λ s. get_or masks.now s 0) set ports result }
-{
-    let mut sets = by_port(table, set, ports);
-    let mut first: u64 = 0;
-    let mut p = 0;
-    while p < 8 {
-        if (ports >> p) % 2 == 1 {
-            if alike(table, masks, first, sets[p]) {
-                sets[p] = first;
-            } else {
-                first = sets[p];
+    /// For each of the ports alone, the set that it reaches from the set; for the others the empty set.
+    #[tactic(auto, using(crate::proofs::StoreLaws::ports_all))]
+    fn by_port(&self, set: u64, ports: u8) -> [u64; 8]
+        requires { set < 2 ^ size self.now }
+        ensures { result ≡ singles (far self.now) (size self.now) set ports }
+    {
+        let mut sets = [0; 8];
+        for p in 0..8 {
+            if ports >> p & 1 == 1 {
+                sets[p] = self.follow(set, p);
             }
         }
-        p += 1;
+        sets
     }
-    sets
-}
 
-// Whether the search surely goes on alike from two sets: they have the same common ports, and each of these reaches the same set from both.
-fn alike(table: &[u16], masks: &[u8; 64], a: u64, b: u64) -> bool
-    requires { Stages table.now a × Stages table.now b }
-    ensures { result ≡ true → Alike (far_of house table.now) (switches table.now) (λ s. get_or masks.now s 0) a b }
-{
-    let ports = common_of(masks, a);
-    if common_of(masks, b) != ports {
-        return false;
+    /// For each of the ports a set from which the search goes on as from the one that the port alone reaches. Ports that follow each other and
+    /// are alike have the set of the first of them, so that it is searched once.
+    #[tactic(auto, using(crate::proofs::GroupLaws::grouping_start))]
+    fn grouped(&self, set: u64, ports: u8) -> [u64; 8]
+        requires { set < 2 ^ size self.now }
+        ensures { Grouped (far self.now) (size self.now) (mask self.now) set ports result }
+    {
+        let mut sets = self.by_port(set, ports);
+        // The empty set to begin with: it is a set like any other, and an Option no plainer.
+        let mut first: u64 = 0;
+        for p in 0..8 {
+            if ports >> p & 1 == 1 {
+                if self.alike(first, sets[p]) {
+                    sets[p] = first;
+                } else {
+                    first = sets[p];
+                }
+            }
+        }
+        sets
     }
-    let mut p = 0;
-    while p < 8 {
-        if (ports >> p) % 2 == 1 {
-            if follow(table, a, p) != follow(table, b, p) {
+
+    /// Whether the search surely goes on alike from two sets: they have the same common ports, and each of these reaches the same set from both.
+    #[tactic(auto, using(crate::proofs::GroupLaws::same_in, crate::proofs::GroupLaws::same_out, crate::proofs::GroupLaws::same_all))]
+    fn alike(&self, a: u64, b: u64) -> bool
+        requires { (a < 2 ^ size self.now) × (b < 2 ^ size self.now) }
+        ensures { result ≡ true → Alike (far self.now) (size self.now) (mask self.now) a b }
+    {
+        let ports = self.common_of(a);
+        if self.common_of(b) != ports {
+            return false;
+        }
+        for p in 0..8 {
+            if ports >> p & 1 == 1 && self.follow(a, p) != self.follow(b, p) {
                 return false;
             }
         }
-        p += 1;
+        true
     }
-    true
-}
 
-// The set that port p reaches from the set.
-fn follow(table: &[u16], set: u64, p: usize) -> u64
-    requires { Stages table.now set × (p < 8) }
-    ensures { result ≡ reach (far_of house table.now) (switches table.now) set (2 ^ p) }
-{
-    let n = table.len() / 8;
-    let mut reached: u64 = 0;
-    let mut rest = set;
-    let mut s: usize = 0;
-    while rest != 0 {
-        let k = index(u64::trailing_zeros(rest));
-        s += k;
-        if let Entry::Switch(t) = entry(table[8 * s + p], n) {
-            reached = reached | (1u64 << index16(t));
+    /// The set that port p reaches from the set.
+    fn follow(&self, set: u64, p: usize) -> u64
+        requires { (set < 2 ^ size self.now) × (p < 8) }
+        ensures { result ≡ reach (far self.now) (size self.now) set (2 ^ p) }
+    {
+        let mut reached = 0;
+        for s in Switches(set) {
+            if let Entry::Switch(t) = self.fabric.entry(s, p) {
+                reached |= 1u64 << t;
+            }
         }
-        rest = (rest >> k) >> 1;
-        s += 1;
+        reached
     }
-    reached
 }
 
-// The set that the ports of a word reach together.
+/// The nonempty choices among some ports, in rising order: those above the last one given, which is 0 before the first.
+#[derive(Drop)]
+struct Choices {
+    ports: u8,
+    last: u8,
+    ghost part: { within last ports ≡ true },
+}
+
+impl Choices {
+    /// All choices among the ports.
+    #[tactic(auto, using(crate::proofs::ChoiceLaws::none_part))]
+    fn of(ports: u8) -> Choices
+        ensures { (result.ports ≡ ports) × (result.last ≡ 0) }
+    {
+        Choices { ports, last: 0 }
+    }
+}
+
+impl Iterator for Choices {
+    type Item = u8;
+
+    ghost next_gives = { λ old w new. (new.ports ≡ old.ports) × MatchOption w (next_choice (old.last + 1) old.ports ≡ 256) (λ w. (w ≡ next_choice (old.last + 1) old.ports) × (new.last ≡ w)) };
+
+    ghost remaining = { λ rest. at_most (rest.ports - rest.last) };
+
+    #[tactic(auto, using(crate::proofs::ChoiceLaws::step_last, crate::proofs::ChoiceLaws::step_next, crate::proofs::ChoiceLaws::part_and, crate::proofs::ChoiceLaws::goes_on))]
+    fn next(&mut self) -> Option<u8> {
+        if self.last == self.ports {
+            return None;
+        }
+        // the bits outside the ports carry a one on to the next port
+        self.last = self.last.wrapping_sub(self.ports) & self.ports;
+        Some(self.last)
+    }
+}
+
+/// The switches of a set, lowest first.
+#[derive(Drop)]
+struct Switches(u64);
+
+impl Iterator for Switches {
+    type Item = usize;
+
+    ghost next_gives = { λ old s new. MatchOption s (old.0 ≡ 0) (λ s. Leaves old.0 s new.0) };
+
+    ghost remaining = { λ rest. at_most rest.0 };
+
+    fn next(&mut self) -> Option<usize> {
+        if self.0 == 0 {
+            return None;
+        }
+        let s = self.0.trailing_zeros() as usize;
+        self.0 &= !(1 << s);
+        Some(s)
+    }
+}
+
+/// The set that the ports of a word reach together.
+#[tactic(auto, using(crate::proofs::LeafLaws::joined_in, crate::proofs::LeafLaws::joined_out), unfolding(crate::specs::Search::joined))]
 fn join(sets: &[u64; 8], w: u8) -> u64
     ensures { result ≡ joined sets.now w 8 }
 {
-    let mut set: u64 = 0;
-    let mut p = 0;
-    while p < 8 {
-        if (w >> p) % 2 == 1 {
-            set = set | sets[p];
+    let mut set = 0;
+    for p in 0..8 {
+        if w >> p & 1 == 1 {
+            set |= sets[p];
         }
-        p += 1;
     }
     set
-}
-
-fn wide(x: u8) -> usize
-    ensures { result ≡ x }
-{
-    x as usize
-}
-
-fn short(x: u8) -> u16
-    ensures { result ≡ x }
-{
-    x as u16
-}
-
-fn byte(x: u16) -> u8
-    requires { x < 256 }
-    ensures { result ≡ x }
-{
-    x as u8
-}
-
-fn index(x: u32) -> usize
-    ensures { result ≡ x }
-{
-    x as usize
-}
-
-fn index16(x: u16) -> usize
-    ensures { result ≡ x }
-{
-    x as usize
 }

@@ -1,4 +1,4 @@
-// 01's networks A to D as tables, for the programs that run the worked cases.
+//! Networks A to D as tables, for the programs that run the worked cases: eight entries a switch, one a port.
 #![tactic(auto)]
 
 pub const A: [u16; 32] = [

@@ -3,12 +3,13 @@
 use Prim.Native.Nat.{ℕ, zero, suc, ◌+◌, ◌-◌, ◌*◌, ◌≤◌, ◌<◌}
 use native.Mathlib.Decide.{ℕ_discrete}
 use native.Mathlib.Omega.{arith}
-use mathlib.Core.Path.{◌≡◌, sym, ap, ap₂, ◌∙◌, subst, subst₂}
+use mathlib.Core.Path.{◌≡◌, sym, ap, ap₂, ◌∙◌, subst}
 use mathlib.Core.List.{List, [], ◌∷◌, ◌++◌, map, append-nil, append_assoc}
 use lib.ListN.{length, take, replicate, length-append, length-take}
 use lib.Seq.{length-take-le}
-use Rattle.rules.specs.declared.Judgement.{Judgement}
-use Rattle.rules.specs.declared.Answer.{Answer}
+use Rattle.std.specs.Prelude.{Err}
+use Rattle.rules.specs.declared.Refusal.{Refusal}
+use Rattle.rules.specs.Answers.{Answer, judged, issued}
 use Rattle.rules.specs.Table.{house}
 use Rattle.rules.specs.Refusals.{most_hops}
 use Rattle.rules.specs.Promise.{Judged, Issued}
@@ -22,18 +23,19 @@ use Rattle.rules.proofs.Texts.{six, line_refused, line-words, line-short, up_to,
 use Rattle.header.specs.Pairs.{issue_pair, issue_pair_memory}
 use Rattle.header.proofs.IssueLaws.{issue-judged, issue-refused}
 use Rattle.wiring.proofs.Found.{judge-is, judge-number}
-use Rattle.ways.proofs.PairLaws.{bare}
+use Rattle.ways.proofs.PairLaws.{bare, refuses}
 use Rattle.report.specs.Put.{Put, spaced_numbers}
 use Rattle.report.proofs.PutLaws.{put-more, put-length}
 
 -- ---- the answer
 
-module _ (t : List ℕ) (j : Judgement) (h : Judged house t j) (a d : ℕ) (out : List ℕ) where
-  pub answer-refused : ¬ (j.number ≡ 0) → (bare j ≡ issue_answer house t a d out) × (out ≡ issue_memory house t a d out)
-  answer-refused n = let m = issue-refused house t a d out (λ k. n (judge-number house t h ∙ k)) in (ap bare (judge-is house t h) ∙ sym m.0, sym m.1)
+module _ (t : List ℕ) (a d : ℕ) (out : List ℕ) where
+  pub answer-refused : (e : Refusal) → Judged house t (judged {A = Unit {0}} (Err e)) → (issued (Err e) ≡ issue_answer house t a d out) × (out ≡ issue_memory house t a d out)
+  answer-refused e h = let m = issue-refused house t a d out (refuses house t e h) in (ap bare (judge-is house t h) ∙ sym m.0, sym m.1)
 
-  pub answer-given : (r : Answer) (o : List ℕ) → j.number ≡ 0 → (r ≡ issue_pair house t a d out) × (o ≡ issue_pair_memory house t a d out) → (r ≡ issue_answer house t a d out) × (o ≡ issue_memory house t a d out)
-  answer-given r o n e = let m = issue-judged house t a d out (sym (judge-number house t h) ∙ n) in (e.0 ∙ sym m.0, e.1 ∙ sym m.1)
+  pub answer-given : (r : Answer) (o : List ℕ) → Judged house t (record { number = 0; place = 0 }) → r ≡ issue_pair house t a d out → o ≡ issue_pair_memory house t a d out
+      → (r ≡ issue_answer house t a d out) × (o ≡ issue_memory house t a d out)
+  answer-given r o h e f = let m = issue-judged house t a d out (sym (judge-number house t h)) in (e ∙ sym m.0, f ∙ sym m.1)
 
 -- ---- the words of a header
 
@@ -53,9 +55,6 @@ shown-long ws i e = ap length (words_last ws i e) ∙ length-append (up_to ws i)
 abbrev pub values : ℕ → ℕ → Answer → List ℕ
 values a d r = a ∷ d ∷ r.number ∷ r.distance ∷ r.count ∷ r.tries ∷ []
 
-pub values-are : (a d : ℕ) {n k c t : ℕ} (r : Answer) → n ≡ r.number → k ≡ r.distance → c ≡ r.count → t ≡ r.tries → ◌≡◌ {A = List ℕ} (a ∷ d ∷ n ∷ k ∷ c ∷ t ∷ []) (values a d r)
-values-are a d r e f g h = λ i. a ∷ d ∷ e i ∷ f i ∷ g i ∷ h i ∷ []
-
 -- with what follows them they are the start of the line
 values-six : (a d : ℕ) (r : Answer) (rest : List ℕ) → six a d r rest ≡ spaced_numbers (values a d r) ++ rest
 unfolding spaced_numbers lines
@@ -69,32 +68,32 @@ pub record Answered (t : List ℕ) (a d : ℕ) (r : Answer) (o : List ℕ) : Typ
   pub eight : length o ≡ 8
 
 module _ (t : List ℕ) (a d : ℕ) (r : Answer) (o : List ℕ) (h : Answered t a d r o) where
-  issued : Issued house t a d (replicate most_hops 0) r o
-  issued = subst (λ (x : Answer). Issued house t a d (replicate most_hops 0) x o) (sym h.given.0) (subst (Issued house t a d (replicate most_hops 0) (issue_answer house t a d (replicate most_hops 0))) (sym h.given.1) (issued-met house t a d (replicate most_hops 0)))
+  kept : Issued house t a d (replicate most_hops 0) r o
+  kept = subst (λ (x : Answer). Issued house t a d (replicate most_hops 0) x o) (sym h.given.0) (subst (Issued house t a d (replicate most_hops 0) (issue_answer house t a d (replicate most_hops 0))) (sym h.given.1) (issued-met house t a d (replicate most_hops 0)))
 
   line-is : pair_line house t a d ≡ line a d r (take r.distance o)
   unfolding pair_line
   line-is = sym (ap₂ (λ (r : Answer) (o : List ℕ). line a d r (take r.distance o)) h.given.0 h.given.1)
 
   pub words-few : r.number ≡ 0 → (1 ≤ r.distance) × (r.distance ≤ 8)
-  words-few e = let b = issued-bounded house t a d (replicate most_hops 0) r o issued e in (b.some, b.distance)
+  words-few e = let b = issued-bounded house t a d (replicate most_hops 0) r o kept e in (b.some, b.distance)
 
   line-fits : length (line a d r (take r.distance o)) ≤ 55
   line-fits = at (ℕ_discrete r.number 0)
     where
       number : r.number < 256
-      number = (issued-fits house t a d house-narrow (replicate most_hops 0) r o issued).number
+      number = (issued-fits house t a d house-narrow (replicate most_hops 0) r o kept).number
 
       few : r.distance ≤ 8 → length (take r.distance o) ≤ 8
       few l = let e = length-take r.distance o in omega arith
 
       at : Dec (r.number ≡ 0) → length (line a d r (take r.distance o)) ≤ 55
       at (yes e) =
-          let b = issued-bounded house t a d (replicate most_hops 0) r o issued e in
+          let b = issued-bounded house t a d (replicate most_hops 0) r o kept e in
           let k = b.distance in let c = b.count in let s = b.tries in
           line-short a d r (take r.distance o) h.source h.target number (omega arith) (omega arith) (omega arith) (few k)
       at (no e) =
-          let b = (issued.refused e).0 in
+          let b = (kept.refused e).0 in
           let k = b.distance in let c = b.count in let s = b.tries in
           line-short a d r (take r.distance o) h.source h.target number (omega arith) (omega arith) (omega arith) (few (omega arith))
 
@@ -157,18 +156,14 @@ module _ {t : List ℕ} {a d : ℕ} {r : Answer} {o : List ℕ} (h : Answered t 
       words-is : pair_line house t a d ≡ spaced_numbers (values a d r) ++ ended (spaced (map hex (take n o)))
       words-is = words-line t a d r o h z ∙ ap (λ (n : ℕ). spaced_numbers (values a d r) ++ ended (spaced (map hex (take n o)))) (sym same-hops)
 
-      pub words-asked : (1 ≤ n) × (n ≤ 8) × (m + 3 * n ≤ length p)
+      pub words-asked : (n ≤ length o) × (n ≡ length (take n o)) × ((1 ≤ length (take n o)) × (m + 3 * length (take n o) ≤ length p))
       words-asked =
           let f = words-few t a d r o h z in
           let l = fits _ words-is in
           let g = h.eight in
           let c = length-take-le n o (omega arith) in
           let s = shown-long (take n o) (n - 1) (omega arith) in
-          (omega arith, omega arith, omega arith)
+          (omega arith, sym c, (omega arith, omega arith))
 
       pub words-put : (q : List ℕ) (x : ℕ) → Put (ended (spaced (map hex (take n o)))) m p q x → (Put (pair_line house t a d) at e q x × (x ≤ at + 55)) × (length q ≡ length e)
       words-put = behind _ words-is
-
--- the same line, by the numbers as they stand in the pair's field
-pub line_of : (t : List ℕ) (a d b c : ℕ) {at : ℕ} {e q : List ℕ} {x : ℕ} → a ≡ b → d ≡ c → Put (pair_line house t a d) at e q x × (x ≤ at + 55) → Put (pair_line house t b c) at e q x × (x ≤ at + 55)
-line_of t a d b c {at} {e} {q} {x} f g h = (subst₂ (λ (a d : ℕ). Put (pair_line house t a d) at e q x) f g h.0, h.1)

@@ -53,7 +53,7 @@ module _ (b t : List ℕ) (from : ℕ) (h : Ready b t from) where
       ∙ ap (λ (q : ℕ). pair_line house (entries b (rows b 64)) (two b (q + 3)) (two b (q + 5))) f
 
   -- the heading s is put, and leaves e
-  module _ (lent s e : List ℕ) (start : ℕ) (room : 524288 ≤ length lent) (is : s ≡ heading) (put : Put s 0 lent e start) where
+  module _ (lent s e : List ℕ) (first start : ℕ) (zero : first ≡ 0) (room : 524288 ≤ length lent) (is : s ≡ heading) (put : Put s first lent e start) where
     start_is : start ≡ 35
     start_is = let l = heading-long in let k = put.end in let q = ap length is in omega arith
 
@@ -74,9 +74,9 @@ module _ (b t : List ℕ) (from : ℕ) (h : Ready b t from) where
           let here = subst (λ (s : List ℕ). Put s at o p r) (line-at i l x q) g.0 in
           record { few = omega arith; low = omega arith; run = run_more [] (line_at house b) start e o at i k.run p r (omega arith) (omega arith) here }
 
-      pub lined-all : count ≤ i → Put (good_text house b) 0 lent o at × (length o ≡ length lent)
+      pub lined-all : count ≤ i → Put (good_text house b) first lent o at × (length o ≡ length lent)
       unfolding good_text
       lined-all l =
           let w = k.few in let c = count-is in let u = start_is in
           let q : i ≡ pairs b 64 = omega arith in
-          (subst₂ (λ (s : List ℕ) (n : ℕ). Put (s ++ lines n (line_at house b)) 0 lent o at) is q (put-more put (omega arith) k.run.so), k.run.long ∙ kept)
+          (subst₂ (λ (s : List ℕ) (n : ℕ). Put (s ++ lines n (line_at house b)) first lent o at) is q (put-more put (omega arith) k.run.so), k.run.long ∙ kept)

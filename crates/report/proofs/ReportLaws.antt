@@ -5,14 +5,17 @@ use native.Mathlib.Omega.{arith}
 use mathlib.Core.Path.{◌≡◌, refl, sym, ap, ◌∙◌}
 use mathlib.Core.List.{List, ◌++◌}
 use lib.ListN.{length, take, drop, length-append}
-use Rattle.rules.specs.declared.FieldAnswer.{FieldAnswer}
+use Rattle.std.specs.Prelude.{Ok, Err}
+use Rattle.rules.specs.declared.Refusal.{Refusal}
+use Rattle.rules.specs.declared.ReadFields.{ReadFields}
+use Rattle.rules.specs.Answers.{place, filled}
+use Rattle.rules.proofs.Answers.{number-some}
 use Rattle.rules.specs.Table.{house}
 use Rattle.rules.specs.Fields.{Filled}
 use Rattle.rules.specs.Print.{too_long_text, bad_field_text}
 use Rattle.rules.specs.Text.{Reported}
 use Rattle.rules.specs.RunText.{text_of, good_text}
 use Rattle.rules.proofs.Texts.{text-long, text-bad, text-good, reported-met, reported-short}
-use Rattle.rules.proofs.FieldLaws.{rows_few}
 use Rattle.fields.proofs.Laws.{fields_within}
 use Rattle.fields.proofs.ReadLaws.{fields-refused, fields_read, table_taken}
 use Rattle.report.specs.Put.{Put, Ready}
@@ -32,32 +35,28 @@ module _ (b out : List ℕ) where
     pub report-long : (s o : List ℕ) (n : ℕ) → 65536 < length b → s ≡ too_long_text → Put s 0 out o n → Reported house b out n o
     report-long s o n l e h = report-text s o n (text-long house b l ∙ sym e) h
 
-    -- what the reader of fields gave is r, and left the table t
-    module _ (lent : List ℕ) (space : 512 ≤ length lent) (r : FieldAnswer) (t : List ℕ) (read : Filled house b lent r t) (short : length b ≤ 65536) where
-      pub report-bad : (o : List ℕ) (n : ℕ) → ¬ (r.number ≡ 0) → Put (bad_field_text r.place) 0 out o n → Reported house b out n o
-      report-bad o n z h =
-          let k = fields-refused b lent space r t read z in
-          report-text (bad_field_text r.place) o n (text-bad house b short k.before ∙ ap bad_field_text (sym k.place)) h
+    -- what the reader of fields gave, and left in the table t
+    module _ (lent : List ℕ) (space : 512 ≤ length lent) (t : List ℕ) (short : length b ≤ 65536) where
+      pub report-bad : (e : Refusal) → Filled house b lent (filled (Err e)) t → (o : List ℕ) (n : ℕ) → Put (bad_field_text (place e)) 0 out o n → Reported house b out n o
+      report-bad e read o n h =
+          let k = fields-refused b lent space (filled (Err e)) t read (λ z. let l = number-some e in omega arith) in
+          report-text (bad_field_text (place e)) o n (text-bad house b short k.before ∙ ap bad_field_text (sym k.place)) h
 
-      module _ (z : r.number ≡ 0) where
+      module _ (f : ReadFields) (read : Filled house b lent (filled (Ok f)) t) where
         pub report-good : (o : List ℕ) (n : ℕ) → Put (good_text house b) 0 out o n → Reported house b out n o
-        report-good o n h = report-text (good_text house b) o n (text-good house b short (fields_read b lent space r t read z).whole) h
+        report-good o n h = report-text (good_text house b) o n (text-good house b short (fields_read b lent space (filled (Ok f)) t read refl).whole) h
 
         -- the part of the table that is lent on
-        module _ (k : ℕ) (same : k ≡ r.switches) where
-          pub report-within : length t ≡ length lent → 8 * k ≤ length t
-          report-within l = let f = rows_few b 64 in let g = (fields_read b lent space r t read z).switches in omega arith
-
-          pub report-ready : (m : ℕ) → m ≡ 8 * k → Ready b (take m t) r.pairs
-          report-ready m e =
-              let g = fields_read b lent space r t read z in
-              let p = g.pairs in let w = g.whole in let f = fields_within b in
-              record {
-                short = short;
-                table = ap (take m) g.table ∙ table_taken b lent m (e ∙ ap (λ (k : ℕ). 8 * k) (same ∙ g.switches));
-                starts = p;
-                ends = omega arith;
-              }
+        pub report-ready : Ready b (take (8 * f.switches) t) f.pairs
+        report-ready =
+            let g = fields_read b lent space (filled (Ok f)) t read refl in
+            let p = g.pairs in let w = g.whole in let l = fields_within b in
+            record {
+              short = short;
+              table = ap (take (8 * f.switches)) g.table ∙ table_taken b lent (8 * f.switches) (ap (λ (k : ℕ). 8 * k) g.switches);
+              starts = p;
+              ends = omega arith;
+            }
 
 -- the text is within the lent output
 pub reported-within : (b out : List ℕ) (n : ℕ) (o : List ℕ) → Reported house b out n o → n ≤ length o

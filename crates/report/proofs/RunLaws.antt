@@ -57,22 +57,22 @@ module _ (s : List ℕ) (f : ℕ → List ℕ) (at : ℕ) (e : List ℕ) where
       pub run_fits : end + length (f i) ≤ length o
       run_fits = let q = h.long in let r = run_room in omega arith
 
-      pub run-next : (p : List ℕ) (r : ℕ) → Put (f i) end o p r → Run s f at e p r (i + 1)
-      run-next p r k = let q = run_room in let u = k.end in run_more p r (omega arith) (omega arith) k
+      pub run_next : (p : List ℕ) (r : ℕ) → Put (f i) end o p r → Run s f at e p r (i + 1)
+      run_next p r k = let q = run_room in let u = k.end in run_more p r (omega arith) (omega arith) k
 
 -- ---- numbers, a space behind each
 
-module _ (ns : List ℕ) (n at : ℕ) (e : List ℕ) (few : length ns ≡ n) where
+module _ (ns : List ℕ) (at : ℕ) (e : List ℕ) where
   abbrev pub number_at : ℕ → List ℕ
   number_at i = spaced_number (get_or ns i 0)
 
-  pub numbers-room : at + length (spaced_numbers ns) ≤ length e → at + (length {A = ℕ} [] + length (lines n number_at)) ≤ length e
+  pub numbers_room : at + length (spaced_numbers ns) ≤ length e → at + (length {A = ℕ} [] + length (lines (length ns) number_at)) ≤ length e
   unfolding spaced_numbers
-  numbers-room l = let k = ap (λ (n : ℕ). length (lines n number_at)) few in omega arith
+  numbers_room l = omega arith
 
-  pub numbers-none : at + length (spaced_numbers ns) ≤ length e → Run [] number_at at e e at 0
-  numbers-none l = run_none [] number_at at e e at (put-none at e) (omega arith)
+  pub numbers_none : at + length (spaced_numbers ns) ≤ length e → Run [] number_at at e e at 0
+  numbers_none l = run_none [] number_at at e e at (put-none at e) (omega arith)
 
-  pub numbers-end : (o : List ℕ) (end i : ℕ) → i ≤ n → n ≤ i → Run [] number_at at e o end i → Put (spaced_numbers ns) at e o end
+  pub numbers_end : (o : List ℕ) (end : ℕ) → Run [] number_at at e o end (length ns) → Put (spaced_numbers ns) at e o end
   unfolding spaced_numbers
-  numbers-end o end i l m h = let k : i ≡ length ns = omega arith in subst (λ (n : ℕ). Put (lines n number_at) at e o end) k h.so
+  numbers_end o end h = h.so

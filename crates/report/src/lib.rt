@@ -1,7 +1,8 @@
-// What `routes` prints, written into a lent buffer. A function that puts a text begins at the offset `at` and gives the offset behind it.
+//! What `routes` prints, written into a lent buffer.
 #![tactic(auto)]
 
-ghost use Rattle.std.specs.Prelude.{◌≡◌, [], ◌∷◌, ◌++◌, map, ◌+◌, ◌*◌, ◌≤◌, ◌<◌, length, take};
+ghost use Rattle.std.specs.Prelude.{◌≡◌, [], ◌∷◌, ◌++◌, map, ◌+◌, ◌*◌, ◌≤◌, ◌<◌, length};
+ghost use Rattle.rules.specs.Answers.{judged, issued};
 ghost use Rattle.rules.specs.Table.{house};
 ghost use Rattle.rules.specs.Promise.{Judged};
 ghost use Rattle.rules.specs.Print.{digit, decimal, hex, spaced, ended, bad_field_text};
@@ -9,223 +10,193 @@ ghost use Rattle.rules.specs.Text.{Reported};
 ghost use Rattle.rules.specs.RunPair.{issue_answer, issue_memory};
 ghost use Rattle.rules.specs.RunFields.{pair_line};
 ghost use Rattle.rules.specs.RunText.{good_text};
-ghost use Rattle.report.specs.Put.{Put, spaced_number, spaced_numbers, Ready};
+ghost use Rattle.report.specs.Put.{Puts, Room, spaced_number, spaced_numbers, Ready};
 
 use fields::{Ends, pair, read};
 use header::issue_pair;
-use rules::{Answer, Judgement};
+use rules::{IssuedHeader, Refusal};
 use wiring::judge;
 
-// Writes the text for an input at the start of out and gives its length; where out has no room for every text, it writes none and gives 0.
+/// A text at the start of a lent buffer: its first `len` bytes. The memory is lent and nothing may allocate, so it is no `String`.
+#[derive(Drop)]
+struct Text<'a> {
+    out: &'a mut [u8],
+    len: usize,
+}
+
+/// Writes the text for an input at the start of out and gives its length; where out has no room for every text, it writes none and gives 0.
 pub fn report(input: &[u8], out: &mut [u8]) -> usize
     ensures { Reported house input.now out.old result out.new }
 {
+    // 0 and no Option: `Reported`, which it promises, names it, and what could not fail still can't.
     if out.len() < 524288 {
         return 0;
     }
+    let mut text = Text { out, len: 0 };
     if input.len() > 65536 {
-        return put(b"input too long\n", out, 0);
+        text.put(b"input too long\n");
+        return text.len;
     }
-    let mut table = [0u16; 512];
-    let fields = read(input, &mut table);
-    if fields.number != 0 {
-        return put_bad_field(fields.place, out);
-    }
-    let entries = 8 * wide(fields.switches);
-    put_lines(&table[0..entries], input, fields.pairs, out)
+    // Nothing may allocate: the table is as long as any, and lent on as far as it is filled.
+    let mut table = [0; 512];
+    let fields = match read(input, &mut table) {
+        Ok(fields) => fields,
+        Err(refusal) => {
+            text.put_bad_field(refusal.place());
+            return text.len;
+        }
+    };
+    let entries = 8 * fields.switches as usize;
+    text.put_lines(&table[..entries], input, fields.pairs);
+    text.len
 }
 
-fn put_bad_field(place: usize, out: &mut [u8]) -> usize
-    requires { 524288 ≤ length out.old }
-    ensures { Put (bad_field_text place) 0 out.old out.new result }
-{
-    let at = put(b"bad field at ", out, 0);
-    let end = put_decimal(long(place), out, at);
-    put(b"\n", out, end)
-}
-
-// The heading, and a line for each pair from the offset `from` on.
-fn put_lines(table: &[u16], input: &[u8], from: usize, out: &mut [u8]) -> usize
-    requires { Ready input.now table.now from × (524288 ≤ length out.old) }
-    ensures { Put (good_text house input.now) 0 out.old out.new result }
-{
-    let judged = judge(table);
-    let pairs = (input.len() - from) / 7;
-    let mut at = put(b"src dst ans dist count tries words\n", out, 0);
-    let mut i = 0;
-    while i < pairs {
-        let ends = pair(input, from + 7 * i);
-        at = put_line(table, judged, ends, out, at);
-        i += 1;
-    }
-    at
-}
-
-// The line of a pair in a table that has been judged so.
-fn put_line(table: &[u16], judged: Judgement, ends: Ends, out: &mut [u8], at: usize) -> usize
-    requires { Judged house table.now judged × (at + 55 ≤ length out.old) }
-    ensures { Put (pair_line house table.now ends.source ends.target) at out.old out.new result × (result ≤ at + 55) }
-{
-    let source = half(ends.source);
-    let target = half(ends.target);
-    let mut words = [0u8; 8];
-    let answer = issue_judged(table, judged, source, target, &mut words);
-    let numbers = [
-        source,
-        target,
-        small(answer.number),
-        small(answer.distance),
-        middle(answer.count),
-        middle(answer.tries),
-    ];
-    let end = put_numbers(numbers, out, at);
-    if answer.number != 0 {
-        return put(b"-\n", out, end);
-    }
-    put_words(words, wide(answer.distance), out, end)
-}
-
-// Header issue in a table that has been judged so.
+/// Header issue in a table that has been judged so. `Judged` speaks of the table and of the judgement, which the lines of one input share: a
+/// type of both for this and `put_line` is no plainer.
 fn issue_judged(
     table: &[u16],
-    judged: Judgement,
+    judgement: Result<(), Refusal>,
     source: u64,
     target: u64,
     words: &mut [u8],
-) -> Answer
-    requires { Judged house table.now judged }
-    ensures { (result ≡ issue_answer house table.now source target words.old) × (words.new ≡ issue_memory house table.now source target words.old) }
+) -> Result<IssuedHeader, Refusal>
+    requires { Judged house table.now (judged judgement) }
+    ensures answer { issued result ≡ issue_answer house table.now source target words.old }
+    ensures memory { words.new ≡ issue_memory house table.now source target words.old }
 {
-    if judged.number != 0 {
-        return Answer {
-            number: judged.number,
-            place: judged.place,
-            distance: 0,
-            count: 0,
-            tries: 0,
-        };
-    }
+    judgement?;
     issue_pair(table, source, target, words)
 }
 
-// Six numbers, a space behind each.
-fn put_numbers(numbers: [u64; 6], out: &mut [u8], at: usize) -> usize
-    requires { at + length (spaced_numbers numbers) ≤ length out.old }
-    ensures { Put (spaced_numbers numbers) at out.old out.new result }
-{
-    let mut end = at;
-    let mut i = 0;
-    while i < 6 {
-        end = put_number(numbers[i], out, end);
-        i += 1;
+/// Numbers are written digit by digit: of `write!` no clause says that it writes the whole text where there is room, and `Reported` promises it.
+/// Each method asks for its own room and puts its own text.
+impl<'a> Text<'a> {
+    fn put_bad_field(&mut self, place: usize)
+        requires { (self.old.len ≡ 0) × (524288 ≤ length self.old.out.now) }
+        ensures { Puts (bad_field_text place) self.old self.new }
+    {
+        self.put(b"bad field at ");
+        self.put_decimal(place as u64);
+        self.put_byte(b'\n');
     }
-    end
-}
 
-// A number and a space.
-fn put_number(n: u64, out: &mut [u8], at: usize) -> usize
-    requires { at + length (spaced_number n) ≤ length out.old }
-    ensures { Put (spaced_number n) at out.old out.new result }
-{
-    let end = put_decimal(n, out, at);
-    out[end] = 32;
-    end + 1
-}
-
-fn put_decimal(n: u64, out: &mut [u8], at: usize) -> usize
-    requires { at + length (decimal n) ≤ length out.old }
-    ensures { Put (decimal n) at out.old out.new result }
-{
-    if n < 10 {
-        out[at] = digit(n);
-        return at + 1;
+    /// The heading, and a line for each pair from the offset `from` on.
+    fn put_lines(&mut self, table: &[u16], input: &[u8], from: usize)
+        requires { (self.old.len ≡ 0) × Ready input.now table.now from × (524288 ≤ length self.old.out.now) }
+        ensures { Puts (good_text house input.now) self.old self.new }
+    {
+        let judgement = judge(table);
+        let pairs = (input.len() - from) / 7;
+        self.put(b"src dst ans dist count tries words\n");
+        for i in 0..pairs {
+            self.put_line(table, judgement, pair(input, from + 7 * i));
+        }
     }
-    let end = put_decimal(n / 10, out, at);
-    out[end] = digit(n % 10);
-    end + 1
-}
 
-// The first n words, a space between them and a line feed behind the last.
-fn put_words(words: [u8; 8], n: usize, out: &mut [u8], at: usize) -> usize
-    requires { (1 ≤ n) × (n ≤ 8) × (at + 3 * n ≤ length out.old) }
-    ensures { Put (ended (spaced (map hex (take n words)))) at out.old out.new result }
-{
-    let mut end = at;
-    let mut i = 0;
-    while i + 1 < n {
-        end = put_word(words[i], 32, out, end);
-        i += 1;
+    /// The line of a pair in a table that has been judged so.
+    fn put_line(&mut self, table: &[u16], judgement: Result<(), Refusal>, ends: Ends)
+        requires { Judged house table.now (judged judgement) × Room 55 self.old }
+        ensures put { Puts (pair_line house table.now ends.source ends.target) self.old self.new }
+        ensures short { self.new.len ≤ self.old.len + 55 }
+    {
+        let source = ends.source as u64;
+        let target = ends.target as u64;
+        let mut words = [0; 8];
+        match issue_judged(table, judgement, source, target, &mut words) {
+            Ok(header) => {
+                let distance = header.distance as u64;
+                let count = header.count as u64;
+                let tries = header.tries as u64;
+                self.put_numbers([source, target, 0, distance, count, tries]);
+                self.put_words(&words[..header.distance as usize]);
+            }
+            Err(refusal) => {
+                let number = refusal.number() as u64;
+                self.put_numbers([source, target, number, 0, 0, 0]);
+                self.put(b"-\n");
+            }
+        }
     }
-    put_word(words[i], 10, out, end)
-}
 
-// A word in two capital hexadecimal digits, and what stands behind it.
-fn put_word(w: u8, behind: u8, out: &mut [u8], at: usize) -> usize
-    requires { at + 3 ≤ length out.old }
-    ensures { Put (hex w ++ (behind ∷ [])) at out.old out.new result }
-{
-    out[at] = digit(small(w) / 16);
-    out[at + 1] = digit(small(w) % 16);
-    out[at + 2] = behind;
-    at + 3
-}
-
-fn put(text: &[u8], out: &mut [u8], at: usize) -> usize
-    requires { at + length text.now ≤ length out.old }
-    ensures { Put text.now at out.old out.new result }
-{
-    let mut i = 0;
-    while i < text.len() {
-        out[at + i] = text[i];
-        i += 1;
+    /// Six numbers, a space behind each.
+    fn put_numbers(&mut self, numbers: [u64; 6])
+        requires { Room (length (spaced_numbers numbers)) self.old }
+        ensures { Puts (spaced_numbers numbers) self.old self.new }
+    {
+        for n in numbers {
+            self.put_number(n);
+        }
     }
-    at + i
+
+    /// A number and a space.
+    fn put_number(&mut self, n: u64)
+        requires { Room (length (spaced_number n)) self.old }
+        ensures { Puts (spaced_number n) self.old self.new }
+    {
+        self.put_decimal(n);
+        self.put_byte(b' ');
+    }
+
+    fn put_decimal(&mut self, n: u64)
+        requires { Room (length (decimal n)) self.old }
+        ensures { Puts (decimal n) self.old self.new }
+    {
+        if n < 10 {
+            self.put_byte(digit(n as u8));
+        } else {
+            self.put_decimal(n / 10);
+            self.put_byte(digit((n % 10) as u8));
+        }
+    }
+
+    /// Words, a space between them and a line feed behind the last.
+    fn put_words(&mut self, words: &[u8])
+        requires { (1 ≤ length words.now) × Room (3 * length words.now) self.old }
+        ensures { Puts (ended (spaced (map hex words.now))) self.old self.new }
+    {
+        let n = words.len() - 1;
+        for w in &words[..n] {
+            self.put_word(*w, b' ');
+        }
+        self.put_word(words[n], b'\n');
+    }
+
+    /// A word in two capital hexadecimal digits, and what stands behind it.
+    fn put_word(&mut self, w: u8, behind: u8)
+        requires { Room 3 self.old }
+        ensures { Puts (hex w ++ (behind ∷ [])) self.old self.new }
+    {
+        self.put_byte(digit(w / 16));
+        self.put_byte(digit(w % 16));
+        self.put_byte(behind);
+    }
+
+    fn put_byte(&mut self, byte: u8)
+        requires { Room 1 self.old }
+        ensures { Puts (byte ∷ []) self.old self.new }
+    {
+        self.out[self.len] = byte;
+        self.len += 1;
+    }
+
+    fn put(&mut self, text: &[u8])
+        requires { Room (length text.now) self.old }
+        ensures { Puts text.now self.old self.new }
+    {
+        let end = self.len + text.len();
+        self.out[self.len..end].copy_from_slice(text);
+        self.len = end;
+    }
 }
 
-// A digit below 16, the letters as capitals.
-fn digit(x: u64) -> u8
+/// A digit below 16, the letters as capitals. Written out for `Text`, which says why.
+#[tactic(auto, unfolding(rules::specs::Print::digit))]
+fn digit(x: u8) -> u8
     requires { x < 16 }
     ensures { result ≡ digit x }
 {
     if x < 10 {
-        return byte(48 + x);
+        return b'0' + x;
     }
-    byte(55 + x)
-}
-
-fn byte(x: u64) -> u8
-    requires { x < 256 }
-    ensures { result ≡ x }
-{
-    x as u8
-}
-
-fn small(x: u8) -> u64
-    ensures { result ≡ x }
-{
-    x as u64
-}
-
-fn half(x: u16) -> u64
-    ensures { (result ≡ x) × (result < 65536) }
-{
-    x as u64
-}
-
-fn middle(x: u32) -> u64
-    ensures { result ≡ x }
-{
-    x as u64
-}
-
-fn long(x: usize) -> u64
-    ensures { result ≡ x }
-{
-    x as u64
-}
-
-fn wide(x: u8) -> usize
-    ensures { result ≡ x }
-{
-    x as usize
+    b'A' + (x - 10)
 }

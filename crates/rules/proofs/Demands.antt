@@ -7,11 +7,7 @@ use mathlib.Core.Logic.{◌↔◌, ⊎_elim}
 use mathlib.Core.List.{List, [], ◌∷◌, ◌++◌}
 use lib.Dec.{T}
 use lib.ListN.{length, get_or}
-use Rattle.rules.specs.declared.Answer.{Answer}
-use Rattle.rules.specs.declared.TestAnswer.{TestAnswer}
-use Rattle.rules.specs.declared.WalkAnswer.{WalkAnswer}
-use Rattle.rules.specs.declared.Verdict.TheVariants.{Neither, Yes}
-use Rattle.rules.specs.declared.Ending.TheVariants.{Delivered}
+use Rattle.rules.specs.Answers.{Answer, TestAnswer, WalkAnswer, Neither, Yes, Delivered}
 use Rattle.rules.specs.Sets.{has}
 use Rattle.rules.specs.Net.{Distance, InMask}
 use Rattle.rules.specs.Header.{Passes}

@@ -7,8 +7,7 @@ use mathlib.Core.Bool.{Bool, true, false, cond}
 use mathlib.Core.List.{List, [], append-nil}
 use native.Mathlib.Nat.{le_of_eq}
 use lib.ListN.{length, take, replicate, drop_of_length-le}
-use Rattle.rules.specs.declared.Judgement.{Judgement}
-use Rattle.rules.specs.declared.Answer.{Answer}
+use Rattle.rules.specs.Answers.{Judgement, Answer}
 use Rattle.rules.specs.Table.{Sizes}
 use Rattle.rules.specs.Refusals.{most_hops}
 use Rattle.rules.specs.Promise.{Blank, Issued}

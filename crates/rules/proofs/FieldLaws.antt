@@ -7,7 +7,7 @@ use mathlib.Core.Path.{◌≡◌, refl, sym, ◌∙◌, subst}
 use mathlib.Core.Logic.{inl, inr, ◌↔◌}
 use mathlib.Core.Bool.{Bool, true, false, cond, ◌&&◌, not}
 use mathlib.Core.List.{List, ◌++◌}
-use mathlib.Core.Option.{none, some}
+use Rattle.std.specs.Prelude.{None, Some}
 use lib.ListN.{length, get_or, drop, get_or-append}
 use lib.Dec.{T, eqb, leb, ltb, eqb→eq, leb→le, le→leb, ltb→lt, lt→ltb, T_not}
 use Rattle.rules.specs.Sets.{least}
@@ -140,7 +140,7 @@ module _ (b : List ℕ) (z : Sizes) where
       i : ℕ
       i = offset b (rows b z.most) (pairs b z.most)
 
-      at : (c : Bool) → ltb i (length b) ≡ c → Decides (bad_field b z) (cond c (some i) none)
+      at : (c : Bool) → ltb i (length b) ≡ c → Decides (bad_field b z) (cond c (Some i) None)
       at true e = (rows b z.most, pairs b z.most, upto_is, ltb→lt i (length b) (T_true e), upto-stops)
       at false e = λ q h.
           let s = upto-one h.0 h.1 q (rows b z.most) (pairs b z.most) i h.2 upto_is h.4 upto-stops in
@@ -154,7 +154,7 @@ module _ (b : List ℕ) (z : Sizes) where
       i : ℕ
       i = offset b (rows b z.most) 0
 
-      at : (c : Bool) → ltb i (length b) ≡ c → Decides (bad_row b z) (cond c (some i) none)
+      at : (c : Bool) → ltb i (length b) ≡ c → Decides (bad_row b z) (cond c (Some i) None)
       at true e = (rows b z.most, upto-rows, ltb→lt i (length b) (T_true e), rows-stop)
       at false e = λ q h.
           let s = rows-one h.0 q (rows b z.most) i h.1 upto-rows h.3 rows-stop in

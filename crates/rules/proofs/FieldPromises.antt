@@ -9,8 +9,7 @@ use mathlib.Core.Logic.{inl, ⊎_elim}
 use mathlib.Core.Bool.{Bool, true, false, cond}
 use mathlib.Core.List.{List, [], ◌∷◌, ◌++◌}
 use lib.ListN.{length, drop}
-use Rattle.rules.specs.declared.Judgement.{Judgement}
-use Rattle.rules.specs.declared.FieldAnswer.{FieldAnswer}
+use Rattle.rules.specs.Answers.{Judgement, FieldAnswer}
 use Rattle.rules.specs.Table.{Sizes}
 use Rattle.rules.specs.Refusals.{Refusal, Says, too_short}
 use Rattle.rules.specs.Look.{accepted}

@@ -6,13 +6,10 @@ use mathlib.Core.Path.{◌≡◌, refl, sym, ◌∙◌, subst}
 use mathlib.Core.Logic.{◌↔◌, ◌⊎◌, inl, inr}
 use mathlib.Core.Bool.{Bool, true, false, cond}
 use mathlib.Core.List.{List, [], ◌∷◌, ◌++◌}
-use mathlib.Core.Option.{Option}
+use Rattle.std.specs.Prelude.{Option}
 use lib.Dec.{T}
 use lib.ListN.{length, get_or, drop, replicate, get_or-append}
-use Rattle.rules.specs.declared.Judgement.{Judgement}
-use Rattle.rules.specs.declared.Answer.{Answer}
-use Rattle.rules.specs.declared.Verdict.{Verdict}
-use Rattle.rules.specs.declared.Verdict.TheVariants.{Neither, No, Yes}
+use Rattle.rules.specs.Answers.{Judgement, Answer, Verdict, Neither, No, Yes}
 use Rattle.rules.specs.Sets.{has, tabulate}
 use Rattle.rules.specs.Net.{Distance, InMask}
 use Rattle.rules.specs.Header.{permits, Passes, Best}

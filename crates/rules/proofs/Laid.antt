@@ -9,14 +9,7 @@ use mathlib.Core.List.{List, [], ◌∷◌, ◌++◌}
 use lib.Dec.{eqb, eqb→eq}
 use lib.Arith.{digits_lt}
 use lib.Pow.{pow_pos, pow_mono, pow-add, shr-shr, high, low}
-use Rattle.rules.specs.declared.Answer.{Answer}
-use Rattle.rules.specs.declared.TestAnswer.{TestAnswer}
-use Rattle.rules.specs.declared.Verdict.{Verdict}
-use Rattle.rules.specs.declared.Verdict.TheVariants.{Neither, No, Yes}
-use Rattle.rules.specs.declared.Ending.{Ending}
-use Rattle.rules.specs.declared.Ending.TheVariants.{None, Delivered, Leftover, Empty, Off, Short}
-use Rattle.rules.specs.declared.WalkAnswer.{WalkAnswer}
-use Rattle.rules.specs.declared.FieldAnswer.{FieldAnswer}
+use Rattle.rules.specs.Answers.{Answer, TestAnswer, Verdict, Neither, No, Yes, Ending, None, Delivered, Leftover, Empty, Off, Short, WalkAnswer, FieldAnswer}
 use Rattle.rules.specs.Pack.{laid, part, packs, packed, verdict_number, packed_test, ending_number, packed_walk, packed_fields, Packs}
 use Rattle.rules.proofs.SetLaws.{same-T}
 

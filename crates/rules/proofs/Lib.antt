@@ -29,3 +29,4 @@ pub mod Texts
 pub mod Order
 pub mod Demands
 pub mod Cases
+pub mod Answers

@@ -8,11 +8,7 @@ use mathlib.Core.Logic.{◌⊎◌, ◌↔◌, ⊎_elim}
 use mathlib.Core.List.{List, [], ◌∷◌, ◌++◌}
 use lib.Dec.{T}
 use lib.ListN.{length, get_or, replicate, drop}
-use Rattle.rules.specs.declared.Judgement.{Judgement}
-use Rattle.rules.specs.declared.Answer.{Answer}
-use Rattle.rules.specs.declared.TestAnswer.{TestAnswer}
-use Rattle.rules.specs.declared.Verdict.{Verdict}
-use Rattle.rules.specs.declared.Verdict.TheVariants.{No, Yes}
+use Rattle.rules.specs.Answers.{Judgement, Answer, TestAnswer, Verdict, No, Yes}
 use Rattle.rules.specs.Sets.{has}
 use Rattle.rules.specs.Header.{permits}
 use Rattle.rules.specs.Table.{Sizes, switches, far_of, Stands}

@@ -5,11 +5,7 @@ use native.Mathlib.Omega.{arith}
 use mathlib.Core.Path.{◌≡◌}
 use mathlib.Core.Logic.{◌⊎◌, ⊎_elim}
 use mathlib.Core.List.{List, [], ◌∷◌, ◌++◌}
-use Rattle.rules.specs.declared.Judgement.{Judgement}
-use Rattle.rules.specs.declared.Answer.{Answer}
-use Rattle.rules.specs.declared.TestAnswer.{TestAnswer}
-use Rattle.rules.specs.declared.WalkAnswer.{WalkAnswer}
-use Rattle.rules.specs.declared.FieldAnswer.{FieldAnswer}
+use Rattle.rules.specs.Answers.{Judgement, Answer, TestAnswer, WalkAnswer, FieldAnswer}
 use Rattle.rules.specs.Table.{Sizes, switches, Attached}
 use Rattle.rules.specs.Refusals.{Refusal, Says, plain, most_hops, of_table, of_pair, too_far, too_short, too_many, too_long, too_few}
 use Rattle.rules.specs.Promise.{Judged, Measured, Masked, Issued, Tested}

@@ -8,12 +8,7 @@ use mathlib.Core.Path.{◌≡◌, refl, subst}
 use mathlib.Core.Logic.{◌⊎◌, inl, inr, ⊎_elim}
 use mathlib.Core.List.{List, [], ◌∷◌, ◌++◌, append-nil}
 use lib.ListN.{length, get_or, take}
-use Rattle.rules.specs.declared.Answer.{Answer}
-use Rattle.rules.specs.declared.TestAnswer.{TestAnswer}
-use Rattle.rules.specs.declared.Ending.{Ending}
-use Rattle.rules.specs.declared.Ending.TheVariants.{None, Delivered, Leftover, Empty, Off, Short}
-use Rattle.rules.specs.declared.WalkAnswer.{WalkAnswer}
-use Rattle.rules.specs.declared.FieldAnswer.{FieldAnswer}
+use Rattle.rules.specs.Answers.{Answer, TestAnswer, Ending, None, Delivered, Leftover, Empty, Off, Short, WalkAnswer, FieldAnswer}
 use Rattle.rules.specs.Pack.{packed, packed_test, packed_walk, packed_fields, Packs}
 use Rattle.rules.specs.Net.{Far, switch, node, nothing, follow, Distance}
 use Rattle.rules.specs.Table.{Sizes, house, no_link, switches, kind_at, far_of, Sound, Stands, Attached}

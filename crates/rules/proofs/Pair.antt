@@ -7,7 +7,7 @@ use mathlib.Core.Path.{◌≡◌, refl, sym, ap₂, ◌∙◌, subst}
 use mathlib.Core.Logic.{◌↔◌}
 use mathlib.Core.Bool.{◌&&◌}
 use mathlib.Core.List.{List, [], ◌∷◌, map}
-use mathlib.Core.Option.{Option, none, some}
+use Rattle.std.specs.Prelude.{Option, None, Some}
 use lib.Dec.{T, eqb, eqb→eq}
 use lib.ListN.{length}
 use lib.Pow.{pow_pos, pow-lt}
@@ -106,12 +106,12 @@ module _ (far : ℕ → ℕ → Far) (size : ℕ) (wired : Wired far size) (d : 
         stages e = in-passes far size wired d mask (OnWay far a d) guide ws (2 ^ a) good (subst (Away far d (Has (2 ^ a))) (sym e) away)
 
     -- the header that is issued, and that there is one
-    pub header_is : (ws : List ℕ) × (best far size (mask_of far size d a) n (2 ^ a) ≡ some ws) × Best (Passes far a d) ws
+    pub header_is : (ws : List ℕ) × (best far size (mask_of far size d a) n (2 ^ a) ≡ Some ws) × Best (Passes far a d) ws
     unfolding mask Answers
     header_is = go (best far size mask n (2 ^ a)) refl (answers-iff {P = Fits far d (2 ^ a) n} (λ g k. to_one g k.passed) (λ g k. record { passed = from_one g k; size = passes-length g k })
         (best far size mask n (2 ^ a)) (answers-best far size wired d mask (OnWay far a d) guide n (2 ^ a) good away))
       where
         go : (r : Option (List ℕ)) → best far size mask n (2 ^ a) ≡ r → Answers (Passes far a d) r
-            → (ws : List ℕ) × (best far size mask n (2 ^ a) ≡ some ws) × Best (Passes far a d) ws
-        go none e k = absurd (k (singles h.way) (single-passes h.way h.short))
-        go (some ws) e k = (ws, e, k)
+            → (ws : List ℕ) × (best far size mask n (2 ^ a) ≡ Some ws) × Best (Passes far a d) ws
+        go None e k = absurd (k (singles h.way) (single-passes h.way h.short))
+        go (Some ws) e k = (ws, e, k)

@@ -6,11 +6,10 @@ use mathlib.Core.Path.{◌≡◌, refl, sym, ap, ◌∙◌, subst}
 use mathlib.Core.Logic.{inl, inr, ⊎_elim, ◌↔◌}
 use mathlib.Core.Bool.{Bool, true, false, cond}
 use mathlib.Core.List.{List, [], ◌∷◌, ◌++◌, append-nil}
-use mathlib.Core.Option.{Option, none, some}
+use Rattle.std.specs.Prelude.{Option, None, Some}
 use lib.Dec.{T, eqb, ltb, ltb→lt, lt→ltb, eqb→eq, eqb_refl}
 use lib.ListN.{length}
-use Rattle.rules.specs.declared.Judgement.{Judgement}
-use Rattle.rules.specs.declared.Answer.{Answer}
+use Rattle.rules.specs.Answers.{Judgement, Answer}
 use Rattle.rules.specs.Sets.{least}
 use Rattle.rules.specs.Refusals.{Refusal, Says, plain, Lowest, lowest, too_short}
 use Rattle.rules.specs.Look.{Looked, pick, first, when, least_at, accepted, answered}
@@ -71,14 +70,14 @@ lowest-one i j h k = le_antisymm (not-lt (λ l. h.first j l k.here)) (not-lt (λ
 
 -- the place found is where the refusal is given; none is found where it never is
 unfoldable pub Decides : Refusal → Option ℕ → Type 0
-Decides r none = Never r
-Decides r (some q) = r.given q
+Decides r None = Never r
+Decides r (Some q) = r.given q
 
 -- one row: the rest need only be right where this one is not given
 pub says-step : (r : Refusal) (rs : List Refusal) (o : Option ℕ) (ls : List Looked) → Decides r o → (Never r → Told rs (first ls)) → Told (r ∷ rs) (first ((r.number, o) ∷ ls))
 unfolding Says Decides first pick
-says-step r rs none ls h k = inr (h, k h)
-says-step r rs (some q) ls h k = inl (refl, h)
+says-step r rs None ls h k = inr (h, k h)
+says-step r rs (Some q) ls h k = inl (refl, h)
 
 pub says-end : Told [] (first [])
 unfolding Says first
@@ -97,7 +96,7 @@ module _ (k : ℕ) (P : ℕ → Type 0) (n : ℕ) (f : ℕ → Bool) (e : (i : �
   unfolding least_at Decides
   lowest-decides = at (ltb (least n f) n) refl (least-is n f)
     where
-      at : (b : Bool) → ltb (least n f) n ≡ b → Least n f (least n f) → Decides (lowest k P) (cond b (some (least n f)) none)
+      at : (b : Bool) → ltb (least n f) n ≡ b → Least n f (least n f) → Decides (lowest k P) (cond b (Some (least n f)) None)
       at true l h =
           let m = ltb→lt (least n f) n (T_true l) in
           record { here = (e (least n f)).0 (m, h.hit m); first = λ j g p. h.before j g ((e j).1 p).1 }
@@ -132,8 +131,8 @@ first-stop [] ms h = absurd (h refl)
 first-stop (l ∷ ls) ms h = at l.1 h (first-stop ls ms)
   where
     at : (o : Option ℕ) → ¬ ((pick l.0 o (first ls)).number ≡ 0) → (¬ ((first ls).number ≡ 0) → first (ls ++ ms) ≡ first ls) → pick l.0 o (first (ls ++ ms)) ≡ pick l.0 o (first ls)
-    at none k ih = ih k
-    at (some q) k ih = refl
+    at None k ih = ih k
+    at (Some q) k ih = refl
 
 -- and where it gives none, the second goes on
 pub first_past : (ls ms : List Looked) → Numbered ls → (first ls).number ≡ 0 → first (ls ++ ms) ≡ first ms
@@ -142,8 +141,8 @@ first_past [] ms n h = refl
 first_past (l ∷ ls) ms n h = at l.1 h (first_past ls ms n.1)
   where
     at : (o : Option ℕ) → (pick l.0 o (first ls)).number ≡ 0 → ((first ls).number ≡ 0 → first (ls ++ ms) ≡ first ms) → pick l.0 o (first (ls ++ ms)) ≡ first ms
-    at none k ih = ih k
-    at (some q) k ih = let e = n.0 in absurd (omega arith)
+    at None k ih = ih k
+    at (Some q) k ih = let e = n.0 in absurd (omega arith)
 
 pub first-zero : (ls : List Looked) → Numbered ls → (first ls).number ≡ 0 → first ls ≡ record { number = 0; place = 0 }
 unfolding first
@@ -189,6 +188,14 @@ unfolding answered
 answered-number j n c k = at (accepted j)
   where
     at : (b : Bool) → (cond {A = Answer} b (record { number = j.number; place = j.place; distance = n; count = c; tries = k }) (record { number = j.number; place = j.place; distance = 0; count = 0; tries = 0 })).number ≡ j.number
+    at true = refl
+    at false = refl
+
+pub answered-place : (j : Judgement) (n c k : ℕ) → (answered j n c k).place ≡ j.place
+unfolding answered
+answered-place j n c k = at (accepted j)
+  where
+    at : (b : Bool) → (cond {A = Answer} b (record { number = j.number; place = j.place; distance = n; count = c; tries = k }) (record { number = j.number; place = j.place; distance = 0; count = 0; tries = 0 })).place ≡ j.place
     at true = refl
     at false = refl
 

@@ -8,7 +8,7 @@ use mathlib.Core.Path.{◌≡◌, refl, sym, ap, subst}
 use mathlib.Core.Logic.{◌↔◌}
 use mathlib.Core.Bool.{Bool, true, false, cond, ◌&&◌, ◌||◌, not}
 use mathlib.Core.List.{List, [], ◌∷◌}
-use mathlib.Core.Option.{Option, none}
+use Rattle.std.specs.Prelude.{Option, None}
 use lib.Dec.{T, ltb, eqb→eq, ltb→lt, lt→ltb}
 use lib.ListN.{length}
 use lib.Bits.{bit_and, and_le_r}
@@ -148,7 +148,7 @@ module _ (far : ℕ → ℕ → Far) (size : ℕ) (wired : Wired far size) where
       c = common size mask m
 
       tail : (w : ℕ) (b : Bool) → choice w c ≡ b → (r : Option (List ℕ))
-          → (Common far d (Has m) w → Answers (Fits far d (reach far size m w) n) r) → Answers (λ ws. Fits far d m (suc n) (w ∷ ws)) (cond b r none)
+          → (Common far d (Has m) w → Answers (Fits far d (reach far size m w) n) r) → Answers (λ ws. Fits far d m (suc n) (w ∷ ws)) (cond b r None)
       unfolding c Answers
       tail w true e r ih =
           let k = (in-common m w g).0 (T_true e) in
@@ -192,6 +192,6 @@ module _ (far : ℕ → ℕ → Far) (size : ℕ) (wired : Wired far size) where
     answers-best zero m g a = start m a
     answers-best (suc n) m g a =
         answers-iff (over n m g a) (under n m g a) (best far size mask (suc n) m)
-        (answers-widest (Fits far d m (suc n)) (pos n m g a) (λ w. cond (choice w (common size mask m)) (best far size mask n (reach far size m w)) none)
+        (answers-widest (Fits far d m (suc n)) (pos n m g a) (λ w. cond (choice w (common size mask m)) (best far size mask n (reach far size m w)) None)
         (λ w. tail n m g a w (choice w (common size mask m)) refl (best far size mask n (reach far size m w))
         (λ k. answers-best n (reach far size m w) (reach-good m w g k) (reach_far m w n a k))) 256)

@@ -10,10 +10,7 @@ use mathlib.Core.Bool.{Bool, true, false, cond, not}
 use mathlib.Core.List.{List, [], ◌∷◌, ◌++◌}
 use lib.Dec.{ltb, ltb→lt, lt→ltb, not_T, T_not}
 use lib.ListN.{length}
-use Rattle.rules.specs.declared.Judgement.{Judgement}
-use Rattle.rules.specs.declared.WalkAnswer.{WalkAnswer}
-use Rattle.rules.specs.declared.Ending.{Ending}
-use Rattle.rules.specs.declared.Ending.TheVariants.{None, Short}
+use Rattle.rules.specs.Answers.{Judgement, WalkAnswer, Ending, None, Short}
 use Rattle.rules.specs.Net.{Far, follow}
 use Rattle.rules.specs.Table.{Sizes, far_of, Stands, Attached}
 use Rattle.rules.specs.Refusals.{Refusal, plain, most_hops, of_table, too_long, too_few}

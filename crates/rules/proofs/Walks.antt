@@ -11,8 +11,7 @@ use mathlib.Core.List.{List, [], ◌∷◌}
 use lib.Dec.{eqb, eqb-suc-zero}
 use lib.ListN.{length, get_or, take}
 use lib.Seq.{take_all, length-take-le}
-use Rattle.rules.specs.declared.Ending.{Ending}
-use Rattle.rules.specs.declared.Ending.TheVariants.{None, Delivered, Leftover, Empty, Off, Short}
+use Rattle.rules.specs.Answers.{Ending, None, Delivered, Leftover, Empty, Off, Short}
 use Rattle.rules.specs.Net.{Far, switch, node, nothing, follow}
 use Rattle.rules.specs.Header.{Words, Passes}
 use Rattle.rules.specs.Walk.{port, ports, after, EndsAs, Ended}

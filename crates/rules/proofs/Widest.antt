@@ -7,7 +7,7 @@ use mathlib.Core.Path.{◌≡◌, refl, sym, ap, ap₂, ◌∙◌, subst}
 use mathlib.Core.Logic.{◌⊎◌, inl, inr, ⊎_elim}
 use mathlib.Core.Bool.{Bool, true, false, cond, not}
 use mathlib.Core.List.{List, [], ◌∷◌}
-use mathlib.Core.Option.{Option, none, some}
+use Rattle.std.specs.Prelude.{Option, None, Some}
 use lib.Dec.{T, ltb, ltb→lt, nltb→le}
 use lib.Count.{ones, ones_step}
 use Rattle.rules.specs.Header.{permits, Before, Best}
@@ -32,20 +32,20 @@ best-one {g = g} {h = h} p q =
 -- ---- an answer to "which is best": one, or that there is none
 
 unfoldable pub Answers : (List ℕ → Type 0) → Option (List ℕ) → Type 0
-Answers P none = (g : List ℕ) → P g → ⊥
-Answers P (some h) = Best P h
+Answers P None = (g : List ℕ) → P g → ⊥
+Answers P (Some h) = Best P h
 
 pub answers-iff : {P Q : List ℕ → Type 0} → ((g : List ℕ) → P g → Q g) → ((g : List ℕ) → Q g → P g) → (r : Option (List ℕ)) → Answers P r → Answers Q r
 unfolding Answers
-answers-iff f b none h = λ g q. h g (b g q)
-answers-iff f b (some r) h = record { one = f r h.one; most = λ g q. h.most g (b g q); first = λ g q. h.first g (b g q) }
+answers-iff f b None h = λ g q. h g (b g q)
+answers-iff f b (Some r) h = record { one = f r h.one; most = λ g q. h.most g (b g q); first = λ g q. h.first g (b g q) }
 
 -- The better of two answers, where all that the first is about stands before all that the second is about.
 module _ {P Q : List ℕ → Type 0} (order : (g h : List ℕ) → P g → Q h → Before g h) where
   Both : List ℕ → Type 0
   Both g = P g ⊎ Q g
 
-  better : (h g : List ℕ) (b : Bool) → ltb (permits h) (permits g) ≡ b → Best P h → Best Q g → Answers Both (cond b (some g) (some h))
+  better : (h g : List ℕ) (b : Bool) → ltb (permits h) (permits g) ≡ b → Best P h → Best Q g → Answers Both (cond b (Some g) (Some h))
   unfolding Answers Both
   better h g true e p q =
       let l : permits h < permits g = ltb→lt (permits h) (permits g) (subst T (sym e) tt) in
@@ -64,9 +64,9 @@ module _ {P Q : List ℕ → Type 0} (order : (g h : List ℕ) → P g → Q h �
 
   pub answers-both : (r q : Option (List ℕ)) → Answers P r → Answers Q q → Answers (λ g. P g ⊎ Q g) (wider r q)
   unfolding Answers wider Both
-  answers-both none q h j = answers-iff (λ g i. inr i) (λ g. ⊎_elim (λ i. absurd (h g i)) (λ i. i)) q j
-  answers-both (some r) none h j = answers-iff {P = P} (λ g i. inl i) (λ g. ⊎_elim (λ i. i) (λ i. absurd (j g i))) (some r) h
-  answers-both (some r) (some q) h j = better r q (ltb (permits r) (permits q)) refl h j
+  answers-both None q h j = answers-iff (λ g i. inr i) (λ g. ⊎_elim (λ i. absurd (h g i)) (λ i. i)) q j
+  answers-both (Some r) None h j = answers-iff {P = P} (λ g i. inl i) (λ g. ⊎_elim (λ i. i) (λ i. absurd (j g i))) (Some r) h
+  answers-both (Some r) (Some q) h j = better r q (ltb (permits r) (permits q)) refl h j
 
 -- the headers of P whose first word is below k, and those whose first word is k
 unfoldable pub Under : (List ℕ → Type 0) → ℕ → List ℕ → Type 0
@@ -99,8 +99,8 @@ module _ (P : List ℕ → Type 0) (k : ℕ) (pos : (ws : List ℕ) → P (k ∷
 
   answers-put : (q : Option (List ℕ)) → Answers (λ ws. P (k ∷ ws)) q → Answers (At P k) (put k q)
   unfolding Answers At put permits Before
-  answers-put none j = nowhere j
-  answers-put (some q) j = record { one = (refl, j.one); most = most; first = first }
+  answers-put None j = nowhere j
+  answers-put (Some q) j = record { one = (refl, j.one); most = most; first = first }
     where
       z : zero < ones k
       z = ones_pos k (pos q j.one)

@@ -6,9 +6,7 @@
 --   cases          the table
 use Rattle.std.specs.Prelude.{ℕ, ◌+◌, List, [], ◌∷◌, ◌++◌, replicate}
 use Prim.Native.String.{String}
-use Rattle.rules.specs.declared.Answer.{Answer}
-use Rattle.rules.specs.declared.Verdict.{Verdict}
-use Rattle.rules.specs.declared.Verdict.TheVariants.{Neither, No, Yes}
+use Rattle.rules.specs.Answers.{Answer, Verdict, Neither, No, Yes}
 use Rattle.rules.specs.Table.{house}
 use Rattle.rules.specs.Promise.{Issued, Masked, Tested}
 use Rattle.rules.specs.Print.{ascii, ended, Printed}

@@ -9,8 +9,7 @@
 --   Holds b k t         t begins with the entries of the first k fields
 --   Filled z b out r o  the promise of the field reader          Loaded z b a d out r o   that of header issue over the fields of tag 1
 use Rattle.std.specs.Prelude.{ℕ, ◌+◌, ◌*◌, ◌/◌, ◌%◌, ◌≤◌, ◌<◌, ◌≡◌, ◌⊎◌, List, [], ◌∷◌, length, get_or, drop}
-use Rattle.rules.specs.declared.Answer.{Answer}
-use Rattle.rules.specs.declared.FieldAnswer.{FieldAnswer}
+use Rattle.rules.specs.Answers.{Answer, FieldAnswer}
 use Rattle.rules.specs.Table.{Sizes}
 use Rattle.rules.specs.Refusals.{Refusal, Says, too_short}
 use Rattle.rules.specs.Promise.{Blank, Issued}

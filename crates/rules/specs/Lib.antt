@@ -11,6 +11,7 @@ pub mod Fields
 pub mod Print
 pub mod Pack
 pub mod Text
+pub mod Answers
 pub mod Look
 pub mod RunTable
 pub mod RunPair

@@ -5,14 +5,7 @@
 --   packed, packed_test, packed_walk, packed_fields      an answer as one number
 --   Packs pack P n     n is an answer with the property P, packed
 use Rattle.std.specs.Prelude.{ℕ, ◌+◌, ◌*◌, ◌/◌, ◌%◌, ◌^◌, ◌≡◌, cond, List, [], ◌∷◌, eqb}
-use Rattle.rules.specs.declared.Answer.{Answer}
-use Rattle.rules.specs.declared.Verdict.{Verdict}
-use Rattle.rules.specs.declared.Verdict.TheVariants.{Neither, No, Yes}
-use Rattle.rules.specs.declared.TestAnswer.{TestAnswer}
-use Rattle.rules.specs.declared.Ending.{Ending}
-use Rattle.rules.specs.declared.Ending.TheVariants.{None, Delivered, Leftover, Empty, Off, Short}
-use Rattle.rules.specs.declared.WalkAnswer.{WalkAnswer}
-use Rattle.rules.specs.declared.FieldAnswer.{FieldAnswer}
+use Rattle.rules.specs.Answers.{Answer, Verdict, Neither, No, Yes, TestAnswer, Ending, None, Delivered, Leftover, Empty, Off, Short, WalkAnswer, FieldAnswer}
 
 unfoldable pub laid : List (ℕ × ℕ) → ℕ
 laid [] = 0

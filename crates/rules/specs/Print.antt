@@ -1,4 +1,4 @@
--- What the program `routes` prints, byte by byte. Assumes nothing.
+-- What the program `routes` prints, byte by byte, and the name of each way that a walk ends. Assumes nothing.
 --
 --   ascii s                the bytes of a text
 --   decimal n, hex w       a number in decimal; a byte in two capital hexadecimal digits
@@ -6,10 +6,13 @@
 --   line a d r ws          the line of a pair with the answer r and the words ws
 --   too_long_text, bad_field_text, heading     the other lines
 --   Printed z t a d l      l is the line that `routes` prints for the pair
-use Rattle.std.specs.Prelude.{ℕ, zero, suc, ◌+◌, ◌/◌, ◌%◌, cond, List, [], ◌∷◌, ◌++◌, map, ◌≡◌, take, replicate, ltb, eqb}
+--   ending_text e          01's name of the ending
+use Rattle.std.specs.Prelude.{ℕ, zero, suc, ◌+◌, ◌/◌, ◌%◌, cond, List, [], ◌∷◌, ◌++◌, map, ◌≡◌, take, replicate, ltb, eqb, codes}
 use Prim.Native.String.{String, len, char_at}
 use Prim.Native.Char.{code}
-use Rattle.rules.specs.declared.Answer.{Answer}
+use Rattle.rules.specs.Answers.{Answer}
+use Rattle.rules.specs.declared.Ending.{Ending}
+use Rattle.rules.specs.declared.Ending.TheVariants.{Delivered, Leftover, Empty, Off, Short}
 use Rattle.rules.specs.Sets.{tabulate}
 use Rattle.rules.specs.Table.{Sizes}
 use Rattle.rules.specs.Refusals.{most_hops}
@@ -77,3 +80,11 @@ pub record Printed (z : Sizes) (t : List ℕ) (a d : ℕ) (l : List ℕ) : Type 
   pub out : List ℕ
   pub issued : Issued z t a d (replicate most_hops 0) answer out
   pub so : l ≡ line a d answer (take answer.distance out)
+
+-- 01: "DELIVERED (at a processor, no words left); LEFTOVER (at a processor, some left); EMPTY .. OFF .. SHORT"
+abbrev pub ending_text : Ending → List ℕ
+ending_text Delivered = codes "DELIVERED"
+ending_text Leftover = codes "LEFTOVER"
+ending_text Empty = codes "EMPTY"
+ending_text Off = codes "OFF"
+ending_text Short = codes "SHORT"

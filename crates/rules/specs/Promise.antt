@@ -5,10 +5,7 @@
 --   Masked z t a d out r o    mask issue             Issued z t a d out r o        header issue
 --   Tested z t a d ws r       the header test        (out the lent output before, o after)
 use Rattle.std.specs.Prelude.{ℕ, ◌-◌, ◌<◌, ◌≡◌, ◌⊎◌, ◌↔◌, List, [], ◌∷◌, ◌++◌, length, get_or, drop, replicate, T}
-use Rattle.rules.specs.declared.Judgement.{Judgement}
-use Rattle.rules.specs.declared.Answer.{Answer}
-use Rattle.rules.specs.declared.TestAnswer.{TestAnswer}
-use Rattle.rules.specs.declared.Verdict.TheVariants.{Neither, No, Yes}
+use Rattle.rules.specs.Answers.{Judgement, Answer, TestAnswer, Neither, No, Yes}
 use Rattle.rules.specs.Sets.{has}
 use Rattle.rules.specs.Net.{Distance, InMask}
 use Rattle.rules.specs.Header.{permits, Best, Passes}

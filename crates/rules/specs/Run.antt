@@ -6,7 +6,7 @@
 --   mask_of a s             the mask of switch s for the pair of switch a and node d
 --   best n m               the widest header of n words from the set m, the first of equals; none where there is none
 use Rattle.std.specs.Prelude.{ℕ, zero, suc, ◌-◌, ◌^◌, Bool, false, cond, ◌&&◌, List, [], ◌∷◌, eqb, ltb, leb}
-use Rattle.std.proofs.Math.Option.{Option, none, some}
+use Rattle.std.specs.Prelude.{Option, None, Some}
 use Rattle.rules.specs.Sets.{has, any, set_of, least}
 use Rattle.rules.specs.Net.{Far, switch, node, nothing}
 use Rattle.rules.specs.Header.{permits}
@@ -14,17 +14,17 @@ use Rattle.rules.specs.Tries.{reaches, reach, common, choice}
 
 -- the one that permits more, and of equals the first
 unfoldable pub wider : Option (List ℕ) → Option (List ℕ) → Option (List ℕ)
-wider none y = y
-wider (some h) none = some h
-wider (some h) (some g) = cond (ltb (permits h) (permits g)) (some g) (some h)
+wider None y = y
+wider (Some h) None = Some h
+wider (Some h) (Some g) = cond (ltb (permits h) (permits g)) (Some g) (Some h)
 
 unfoldable pub put : ℕ → Option (List ℕ) → Option (List ℕ)
-put w none = none
-put w (some ws) = some (w ∷ ws)
+put w None = None
+put w (Some ws) = Some (w ∷ ws)
 
 -- the widest of the headers whose first word w is below n and whose rest is f w
 unfoldable pub widest : ℕ → (ℕ → Option (List ℕ)) → Option (List ℕ)
-widest zero f = none
+widest zero f = None
 widest (suc w) f = wider (widest w f) (put w (f w))
 
 module _ (far : ℕ → ℕ → Far) (size : ℕ) where
@@ -53,5 +53,5 @@ module _ (far : ℕ → ℕ → Far) (size : ℕ) where
 
   module _ (mask : ℕ → ℕ) where
     unfoldable pub best : ℕ → ℕ → Option (List ℕ)
-    best zero m = some []
-    best (suc n) m = let c = common size mask m in widest 256 (λ w. let r = best n (reach far size m w) in cond (choice w c) r none)
+    best zero m = Some []
+    best (suc n) m = let c = common size mask m in widest 256 (λ w. let r = best n (reach far size m w) in cond (choice w c) r None)

@@ -5,10 +5,8 @@
 --   call_answer, call_memory       the C call's answer before it is packed, and what the lent output then holds
 --   pair_line z t a d             what `routes` prints for a pair
 use Rattle.std.specs.Prelude.{ℕ, ◌+◌, ◌*◌, ◌/◌, ◌%◌, Bool, cond, ◌&&◌, not, List, [], ◌∷◌, ◌++◌, length, get_or, take, drop, replicate, eqb, ltb, leb}
-use Rattle.std.proofs.Math.Option.{none, some}
-use Rattle.rules.specs.declared.Judgement.{Judgement}
-use Rattle.rules.specs.declared.Answer.{Answer}
-use Rattle.rules.specs.declared.FieldAnswer.{FieldAnswer}
+use Rattle.std.specs.Prelude.{None, Some}
+use Rattle.rules.specs.Answers.{Judgement, Answer, FieldAnswer}
 use Rattle.rules.specs.Sets.{least, tabulate}
 use Rattle.rules.specs.Table.{Sizes}
 use Rattle.rules.specs.Refusals.{most_hops}
@@ -33,7 +31,7 @@ module _ (b : List ℕ) where
 
   -- 12 where the input does not end at this offset
   unfoldable pub look12 : ℕ → Looked
-  look12 i = (12, cond (ltb i (length b)) (some i) none)
+  look12 i = (12, cond (ltb i (length b)) (Some i) None)
 
   module _ (z : Sizes) where
     unfoldable pub fields_judgement : List ℕ → Judgement

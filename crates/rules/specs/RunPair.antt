@@ -4,12 +4,8 @@
 --   measure_of, mask_answer, test_of, issue_answer        the answers of distance, mask issue, header test, header issue
 --   mask_memory, issue_memory                           what the lent output then holds
 use Rattle.std.specs.Prelude.{ℕ, ◌-◌, ◌^◌, Bool, cond, ◌&&◌, not, List, [], ◌∷◌, ◌++◌, length, drop, replicate, eqb, ltb}
-use Rattle.std.proofs.Math.Option.{Option, none, some}
-use Rattle.rules.specs.declared.Judgement.{Judgement}
-use Rattle.rules.specs.declared.Answer.{Answer}
-use Rattle.rules.specs.declared.TestAnswer.{TestAnswer}
-use Rattle.rules.specs.declared.Verdict.{Verdict}
-use Rattle.rules.specs.declared.Verdict.TheVariants.{Neither, No, Yes}
+use Rattle.std.specs.Prelude.{Option, None, Some}
+use Rattle.rules.specs.Answers.{Judgement, Answer, TestAnswer, Verdict, Neither, No, Yes}
 use Rattle.rules.specs.Sets.{tabulate}
 use Rattle.rules.specs.Header.{permits}
 use Rattle.rules.specs.Tries.{limit, tries, chooses}
@@ -20,8 +16,8 @@ use Rattle.rules.specs.Look.{Looked, first, when, accepted, answered}
 use Rattle.rules.specs.RunTable.{look_table, attached, home}
 
 unfoldable pub words : Option (List ℕ) → List ℕ
-words none = []
-words (some ws) = ws
+words None = []
+words (Some ws) = ws
 
 module _ (z : Sizes) (t : List ℕ) (a d : ℕ) where
   unfoldable pub distance : ℕ

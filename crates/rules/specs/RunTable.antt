@@ -5,7 +5,7 @@
 use Rattle.std.specs.Prelude.{ℕ, ◌*◌, ◌%◌, Bool, true, false, ◌||◌, not, List, [], ◌∷◌, length, eqb, ltb}
 use Rattle.rules.specs.declared.Entry.{Entry}
 use Rattle.rules.specs.declared.Entry.TheVariants.{Switch, Node, Nothing, Bad}
-use Rattle.rules.specs.declared.Judgement.{Judgement}
+use Rattle.rules.specs.Answers.{Judgement}
 use Rattle.rules.specs.Sets.{any, least}
 use Rattle.rules.specs.Net.{Far, switch, node, nothing}
 use Rattle.rules.specs.Table.{Sizes, switches, kind_at, far_of}

@@ -3,7 +3,7 @@
 --   line_at z b i       the line of pair i of the input b
 --   text_of z b         all that is printed for it
 use Rattle.std.specs.Prelude.{ℕ, ◌+◌, cond, List, [], ◌∷◌, ◌++◌, length, ltb}
-use Rattle.rules.specs.declared.Judgement.{Judgement}
+use Rattle.rules.specs.Answers.{Judgement}
 use Rattle.rules.specs.Table.{Sizes}
 use Rattle.rules.specs.Fields.{two, offset}
 use Rattle.rules.specs.Print.{heading, too_long_text, bad_field_text, most_input}

@@ -3,10 +3,7 @@
 --   walk_from far ws cs s h     the walk from switch s with these words and choice bytes, after h hops
 --   walk_of z t a ws cs         the operation's answer
 use Rattle.std.specs.Prelude.{ℕ, suc, cond, not, List, [], ◌∷◌, ◌++◌, length, get_or, drop, eqb, ltb}
-use Rattle.rules.specs.declared.Judgement.{Judgement}
-use Rattle.rules.specs.declared.Ending.{Ending}
-use Rattle.rules.specs.declared.Ending.TheVariants.{None, Delivered, Leftover, Empty, Off, Short}
-use Rattle.rules.specs.declared.WalkAnswer.{WalkAnswer}
+use Rattle.rules.specs.Answers.{Judgement, Ending, None, Delivered, Leftover, Empty, Off, Short, WalkAnswer}
 use Rattle.rules.specs.Net.{Far, switch, node, nothing}
 use Rattle.rules.specs.Table.{Sizes, far_of}
 use Rattle.rules.specs.Refusals.{most_hops}

@@ -7,9 +7,7 @@
 --   Walked z t a ws cs r  the promise of the walk
 use Rattle.std.specs.Prelude.{ℕ, zero, suc, ◌+◌, ◌%◌, ◌<◌, ◌≡◌, ◌&&◌, List, [], ◌∷◌, ◌++◌, length, get_or, take, eqb}
 use Rattle.std.specs.Int.Count.{ones}
-use Rattle.rules.specs.declared.Ending.{Ending}
-use Rattle.rules.specs.declared.Ending.TheVariants.{None, Delivered, Leftover, Empty, Off, Short}
-use Rattle.rules.specs.declared.WalkAnswer.{WalkAnswer}
+use Rattle.rules.specs.Answers.{Ending, None, Delivered, Leftover, Empty, Off, Short, WalkAnswer}
 use Rattle.rules.specs.Sets.{has, count, least}
 use Rattle.rules.specs.Net.{Far, switch, node, nothing, follow}
 use Rattle.rules.specs.Table.{Sizes, far_of, Stands, Attached}

@@ -1,8 +1,9 @@
 -- The walk by its hops: the ports that the choice passed over, what one hop is, and how each answer of a hop goes on.
 -- Assumes nothing.
-use Prim.Native.Nat.{ℕ, zero, suc, ◌+◌, ◌*◌, ◌-◌, ◌/◌, ◌%◌, ◌^◌, ◌≤◌, ◌<◌, zero-le}
+use Prim.Native.Nat.{ℕ, zero, suc, ◌+◌, ◌-◌, ◌/◌, ◌%◌, ◌^◌, ◌≤◌, ◌<◌, zero-le}
 use native.Mathlib.Numerals.{add-one}
 use native.Mathlib.Omega.{arith}
+use native.Mathlib.Nat.{le_antisymm}
 use mathlib.Core.Path.{◌≡◌, refl, sym, ap, ap₂, ◌∙◌}
 use mathlib.Core.Bool.{Bool, true, false, cond}
 use mathlib.Core.List.{List, [], ◌∷◌}
@@ -11,18 +12,17 @@ use lib.Dec.{T, eqb, eqb→eq}
 use lib.Count.{ones}
 use lib.ListN.{length, get_or, drop, length-drop, drop_of_length-le}
 use lib.Seq.{drop-cons}
-use Rattle.rules.specs.declared.Entry.{Entry}
-use Rattle.rules.specs.declared.Entry.TheVariants.{Switch, Node, Nothing, Bad}
-use Rattle.rules.specs.declared.WalkAnswer.{WalkAnswer}
-use Rattle.rules.specs.declared.Ending.{Ending}
+use Rattle.rules.specs.Answers.{WalkAnswer, Ending}
+use Rattle.std.specs.Prelude.{bit_and}
+use Rattle.std.proofs.lemmas.Nat.Bits.{shr_and_one}
 use Rattle.rules.specs.Sets.{has, sum, count, least}
 use Rattle.rules.specs.Net.{Far, switch, node, nothing}
-use Rattle.rules.specs.Table.{house, kind, leads, switches, far_of}
+use Rattle.rules.specs.Table.{house, switches, far_of}
 use Rattle.rules.specs.Walk.{port}
 use Rattle.rules.specs.RunWalk.{Stop, arrived, cross, walk_from}
-use Rattle.wiring.proofs.Laws.{kind-at}
-use Rattle.rules.proofs.Ports.{nth}
-use Rattle.rules.proofs.Tables.{port-inside, far-inside, far_of-wired}
+use Rattle.rules.proofs.Ports.{nth, port-exact}
+use Rattle.rules.proofs.Widest.{ones_pos}
+use Rattle.rules.proofs.Tables.{far_of-wired}
 use Rattle.rules.proofs.SetLaws.{T_and, and_i, eq-T}
 use Rattle.wiring.proofs.Laws.{Passed, passed_start, passed-one, passed-hit, passed-all}
 use Rattle.walk.specs.declared.Step.{Step}
@@ -38,6 +38,13 @@ pub record Counted (w k below p : ℕ) : Type 0 where
   pub few : below ≤ p
 
 module _ (w k : ℕ) where
+  -- the test of a port, as the code makes it
+  and_one : (p : ℕ) → w / 2 ^ p % 2 ≡ 1 → bit_and (w / 2 ^ p) 1 ≡ 1
+  and_one p y = shr_and_one w p ∙ y
+
+  one_and : (p : ℕ) → bit_and (w / 2 ^ p) 1 ≡ 1 → w / 2 ^ p % 2 ≡ 1
+  one_and p y = sym (shr_and_one w p) ∙ y
+
   pub counted_start : Counted w k 0 0
   unfolding count sum
   counted_start = record { passed = passed_start; counted = refl; few = zero-le }
@@ -48,21 +55,21 @@ module _ (w k : ℕ) where
     unfolding count sum
     grown x e = rw (add-one p, e) (ap (λ (n : ℕ). n + cond x 1 0) (sym h.counted))
 
-    pub counted-barred : (w / 2 ^ p % 2 ≡ 1 → ⊥) → {x : ℕ} → x ≡ b → Counted w k x (p + 1)
+    pub counted_barred : (bit_and (w / 2 ^ p) 1 ≡ 1 → ⊥) → {x : ℕ} → x ≡ b → Counted w k x (p + 1)
     unfolding has
-    counted-barred n s =
-        let e : has p w ≡ false = ne_eqb (w / 2 ^ p % 2) 1 n in
+    counted_barred n s =
+        let e : has p w ≡ false = ne_eqb (w / 2 ^ p % 2) 1 (λ m. n (and_one p m)) in
         let g = grown false e in
         record {
-          passed = passed-one h.passed l (λ m. n (eqb→eq (w / 2 ^ p % 2) 1 (T_and (has p w) (eqb (count p (λ q. has q w)) k) m).0));
+          passed = passed-one h.passed l (λ m. n (and_one p (eqb→eq (w / 2 ^ p % 2) 1 (T_and (has p w) (eqb (count p (λ q. has q w)) k) m).0)));
           counted = omega arith;
           few = let f = h.few in omega arith;
         }
 
-    pub counted-permitted : w / 2 ^ p % 2 ≡ 1 → (b ≡ k → ⊥) → {x : ℕ} → x ≡ b + 1 → Counted w k x (p + 1)
+    pub counted_permitted : bit_and (w / 2 ^ p) 1 ≡ 1 → (b ≡ k → ⊥) → {x : ℕ} → x ≡ b + 1 → Counted w k x (p + 1)
     unfolding has
-    counted-permitted y n s =
-        let e : has p w ≡ true = eq-eqb (w / 2 ^ p % 2) 1 y in
+    counted_permitted y n s =
+        let e : has p w ≡ true = eq-eqb (w / 2 ^ p % 2) 1 (one_and p y) in
         let g = grown true e in
         record {
           passed = passed-one h.passed l (λ m. n (h.counted ∙ eqb→eq (count p (λ q. has q w)) k (T_and (has p w) (eqb (count p (λ q. has q w)) k) m).1));
@@ -71,49 +78,37 @@ module _ (w k : ℕ) where
         }
 
   module _ {b p : ℕ} (h : Counted w k b p) (c : ℕ) (e : k ≡ c % ones w) where
-    pub counted-hit : w / 2 ^ p % 2 ≡ 1 → b ≡ k → p ≡ port w c
+    pub counted_hit : bit_and (w / 2 ^ p) 1 ≡ 1 → b ≡ k → p ≡ port w c
     unfolding has port
-    counted-hit y q =
-        let one : T (has p w) = eq-T (w / 2 ^ p % 2) 1 y in
+    counted_hit y q =
+        let one : T (has p w) = eq-T (w / 2 ^ p % 2) 1 (one_and p y) in
         let hit : T (eqb (count p (λ q. has q w)) k) = eq-T (count p (λ q. has q w)) k (sym h.counted ∙ q) in
         passed-hit h.passed (and_i (has p w) (eqb (count p (λ q. has q w)) k) one hit) ∙ ap (λ (n : ℕ). least 8 (nth w n)) e
 
-    pub counted-all : 8 ≤ p → p ≡ port w c
+    pub counted_all : 8 ≤ p → 8 ≡ port w c
     unfolding port
-    counted-all l = passed-all h.passed l ∙ ap (λ (n : ℕ). least 8 (nth w n)) e
+    counted_all l =
+        let same : 8 ≡ p = le_antisymm l h.passed.bound in
+        same ∙ passed-all h.passed l ∙ ap (λ (n : ℕ). least 8 (nth w n)) e
+
+pub ruleset choosing = (ones_pos, counted_start, counted_hit, counted_all)
 
 -- ---- one hop
 
-module _ (t : List ℕ) (s w c : ℕ) where
-  pub step-empty : w ≡ 0 → Empty ≡ step_of (far_of house t) s w c
-  unfolding step_of
-  step-empty e = simp (eq-eqb w 0 e)
+-- the chosen port is one of eight
+pub port_chosen : (w c p : ℕ) → p ≡ port w c → (w ≡ 0 → ⊥) → w < 256 → p < 8
+port_chosen w c p e n f = rw e (port-exact w c (omega arith) f).2
 
-  -- e is read at the chosen port
-  pub step-read : s < switches t → (w ≡ 0 → ⊥) → {p : ℕ} → p ≡ port w c → p < 8 → {e : Entry} → e ≡ kind house (length t / 8) (get_or t (8 * s + p) 0)
-      → crossing (leads e) ≡ step_of (far_of house t) s w c
-  unfolding step_of
-  step-read l n {p} q m r =
-      let far : far_of house t s p ≡ leads _ = far-inside house t s p l m ∙ ap leads (kind-at t (8 * s + p) (port-inside t s p l m) ∙ sym r) in
-      simp (ne_eqb w 0 n) (ap crossing (sym far ∙ ap (far_of house t s) q))
+-- a word that is not 0 goes to where that port leads
+pub step_read : (far : ℕ → ℕ → Far) (s w c : ℕ) → (w ≡ 0 → ⊥) → step_of far s w c ≡ crossing (far s (port w c))
+unfolding step_of
+step_read far s w c n = simp (ne_eqb w 0 n)
 
--- what the code makes of the entry
-module _ {e : Entry} {x : Step} (r : crossing (leads e) ≡ x) where
-  pub step-moved : {u v : ℕ} → e ≡ Switch u → v ≡ u → Moved v ≡ x
-  unfolding crossing leads
-  step-moved q k = ap Moved k ∙ sym (ap (λ (y : Entry). crossing (leads y)) q) ∙ r
+pub step_empty : (far : ℕ → ℕ → Far) (s w c : ℕ) → w ≡ 0 → step_of far s w c ≡ Empty
+unfolding step_of
+step_empty far s w c e = simp (eq-eqb w 0 e)
 
-  pub step-arrived : {a : ℕ} → e ≡ Node a → Arrived a ≡ x
-  unfolding crossing leads
-  step-arrived q = sym (ap (λ (y : Entry). crossing (leads y)) q) ∙ r
-
-  pub step-none : e ≡ Nothing → Off ≡ x
-  unfolding crossing leads
-  step-none q = sym (ap (λ (y : Entry). crossing (leads y)) q) ∙ r
-
-  pub step-bad : e ≡ Bad → Off ≡ x
-  unfolding crossing leads
-  step-bad q = sym (ap (λ (y : Entry). crossing (leads y)) q) ∙ r
+pub ruleset hopping = (port_chosen, step_read, step_empty)
 
 -- ---- the walk by its hops
 
@@ -178,11 +173,11 @@ pub walk_start : {t ws cs : List ℕ} {home : ℕ} → home < switches t → Wal
 walk_start l = record { rest = refl; there = l; within = zero-le }
 
 pub walk-short : {t ws cs : List ℕ} {home s i : ℕ} → Walking t ws cs home s i → length ws ≤ i
-    → {r : WalkAnswer} {p : ℕ} → Answers r Ending.Short p i 0 → p ≡ s → r ≡ stopped (walk_from (far_of house t) ws cs home 0)
+    → {r : WalkAnswer} {p : ℕ} → Answers r Ending.Short p (length ws) 0 → p ≡ s → r ≡ stopped (walk_from (far_of house t) ws cs home 0)
 unfolding walk_from
 walk-short {t} {ws} {cs} {s = s} {i = i} h l a e =
     let none : drop i ws ≡ [] = drop_of_length-le ws l in
-    answers-stop (h.rest ∙ ap (λ (xs : List ℕ). walk_from (far_of house t) xs (drop i cs) s i) none) a refl e refl refl
+    answers-stop (h.rest ∙ ap (λ (xs : List ℕ). walk_from (far_of house t) xs (drop i cs) s i) none) a refl e (le_antisymm l h.within) refl
 
 -- x is what the next hop gives, by the word and the choice byte at i
 pub record Hopped (t ws cs : List ℕ) (home s i : ℕ) (x : Step) : Type 0 where

@@ -4,7 +4,7 @@
 --   stopped e            the answer of a walk that stopped so
 --   Walkable t s ws cs   the walk from switch s can be made: s is a switch, there are at most eight words, and a choice byte for each
 use Rattle.std.specs.Prelude.{ℕ, ◌≤◌, ◌<◌, cond, List, length, eqb}
-use Rattle.rules.specs.declared.WalkAnswer.{WalkAnswer}
+use Rattle.rules.specs.Answers.{WalkAnswer}
 use Rattle.walk.specs.declared.Step.{Step}
 use Rattle.walk.specs.declared.Step.TheVariants.{Moved, Arrived, Off, Empty}
 use Rattle.rules.specs.Net.{Far, switch, node, nothing}
@@ -24,7 +24,6 @@ unfoldable pub stopped : Stop → WalkAnswer
 stopped e = record { number = 0; place = 0; ending = e.ending; at = e.at; hops = e.hops; left = e.left }
 
 pub record Walkable (t : List ℕ) (s : ℕ) (ws cs : List ℕ) : Type 0 where
-  pub short : length t ≤ 512
   pub there : s < switches t
   pub few : length ws ≤ 8
   pub enough : length ws ≤ length cs

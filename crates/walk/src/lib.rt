@@ -1,17 +1,19 @@
-// The walk of one packet through chosen ports. One hop is a function of its own; the walk is hops until an ending.
+//! The walk of one packet through chosen ports. One hop is a function of its own; the walk is hops until an ending. Table, processor,
+//! words and choice bytes come side by side, as the C call lends them.
 #![tactic(auto)]
 
-ghost use Rattle.std.specs.Prelude.{◌≡◌, zero, ◌*◌, ◌≤◌, ◌<◌, length};
+ghost use Rattle.std.specs.Prelude.{◌≡◌, zero, ◌≤◌, ◌<◌, Ok};
+ghost use Rattle.rules.specs.Answers.{walked};
 ghost use Rattle.rules.specs.Table.{house, switches, far_of};
 ghost use Rattle.rules.specs.Walk.{Walked, port};
 ghost use Rattle.rules.specs.RunWalk.{walk_from};
 ghost use Rattle.walk.specs.Step.{step_of, stopped, Walkable};
 
-use rules::{Ending, Entry, WalkAnswer};
-use wiring::{entry, find, judge};
+use rules::{Ending, Entry, Refusal, WalkEnd};
+use wiring::{Fabric, find, judge};
 
-// What comes of one hop: the packet is at a switch or at a processor, the port has no link, or the word is 0.
-#[derive(Clone, Copy)]
+/// What comes of one hop: the packet is at a switch or at a processor, the port has no link, or the word is 0.
+#[derive(Clone, Copy, Debug, PartialEq, Eq)]
 enum Step {
     Moved(usize),
     Arrived(u16),
@@ -19,47 +21,28 @@ enum Step {
     Empty,
 }
 
-// Walks one packet from the processor source, with the header's words and a choice byte for each.
-pub fn walk(table: &[u16], source: u64, header: &[u8], choices: &[u8]) -> WalkAnswer
-    ensures { Walked house table.now source header.now choices.now result }
+/// Walks one packet from the processor `source`, with the header's words and a choice byte for each.
+pub fn walk(table: &[u16], source: u64, header: &[u8], choices: &[u8]) -> Result<WalkEnd, Refusal>
+    ensures { Walked house table.now source header.now choices.now (walked result) }
 {
-    let judged = judge(table);
-    if judged.number != 0 {
-        return refused(judged.number, judged.place);
-    }
-    let at = find(table, source);
-    if at == 8 * (table.len() / 8) {
-        return refused(4, 0);
-    }
+    judge(table)?;
+    let Some(at) = find(table, source) else {
+        return Err(Refusal::NotAttached);
+    };
     if 8 < header.len() {
-        return refused(10, 0);
+        return Err(Refusal::LongHeader);
     }
     if choices.len() < header.len() {
-        return refused(11, 0);
+        return Err(Refusal::FewChoices);
     }
-    from_switch(table, at / 8, header, choices)
+    Ok(from_switch(&Fabric { table }, at / 8, header, choices))
 }
 
-fn refused(number: u8, place: usize) -> WalkAnswer
-    ensures { result ≡ record { number = number; place = place; ending = Ending.None; at = 0; hops = 0; left = 0 } }
-{
-    WalkAnswer {
-        number,
-        place,
-        ending: Ending::None,
-        at: 0,
-        hops: 0,
-        left: 0,
-    }
-}
-
-fn ended(ending: Ending, at: u16, hops: usize, left: usize) -> WalkAnswer
+fn ended(ending: Ending, at: u16, hops: usize, left: usize) -> WalkEnd
     requires { (hops ≤ 8) × (left ≤ 8) }
-    ensures { result ≡ record { number = 0; place = 0; ending = ending; at = at; hops = hops; left = left } }
+    ensures { result ≡ record { ending = ending; at = at; hops = hops; left = left } }
 {
-    WalkAnswer {
-        number: 0,
-        place: 0,
+    WalkEnd {
         ending,
         at,
         hops: hops as u8,
@@ -67,90 +50,65 @@ fn ended(ending: Ending, at: u16, hops: usize, left: usize) -> WalkAnswer
     }
 }
 
-// Hops from a switch until an ending.
-fn from_switch(table: &[u16], home: usize, header: &[u8], choices: &[u8]) -> WalkAnswer
-    requires { Walkable table.now home header.now choices.now }
-    ensures { result ≡ stopped (walk_from (far_of house table.now) header.now choices.now home 0) }
+/// Hops from a switch until an ending.
+fn from_switch(fabric: &Fabric, home: usize, header: &[u8], choices: &[u8]) -> WalkEnd
+    requires { Walkable fabric.now.table.now home header.now choices.now }
+    ensures { walked (Ok result) ≡ stopped (walk_from (far_of house fabric.now.table.now) header.now choices.now home 0) }
 {
     let words = header.len();
     let mut s = home;
-    let mut i = 0;
-    while i < words {
-        match hop(table, s, header[i], choices[i]) {
-            Step::Moved(t) => {
-                s = t;
+    for i in 0..words {
+        match hop(fabric, s, header[i], choices[i]) {
+            Step::Moved(t) => s = t,
+            Step::Arrived(a) if i + 1 == words => {
+                return ended(Ending::Delivered, a, i + 1, 0);
             }
             Step::Arrived(a) => {
-                if i + 1 == words {
-                    return ended(Ending::Delivered, a, i + 1, 0);
-                }
                 return ended(Ending::Leftover, a, i + 1, words - i - 1);
             }
             Step::Off => {
-                return ended(Ending::Off, narrow(s), i, words - i);
+                return ended(Ending::Off, s as u16, i, words - i);
             }
             Step::Empty => {
-                return ended(Ending::Empty, narrow(s), i, words - i);
+                return ended(Ending::Empty, s as u16, i, words - i);
             }
         }
-        i += 1;
     }
-    ended(Ending::Short, narrow(s), i, 0)
+    ended(Ending::Short, s as u16, words, 0)
 }
 
-// One hop from switch s by a word and a choice byte.
-fn hop(table: &[u16], s: usize, word: u8, choice: u8) -> Step
-    requires { s < switches table.now }
-    ensures { result ≡ step_of (far_of house table.now) s word choice }
+/// One hop from switch s by a word and a choice byte.
+#[tactic(auto, using(crate::proofs::Laws::hopping), unfolding(crate::specs::Step::crossing, rules::specs::Table::leads))]
+fn hop(fabric: &Fabric, s: usize, word: u8, choice: u8) -> Step
+    requires { s < switches fabric.now.table.now }
+    ensures { result ≡ step_of (far_of house fabric.now.table.now) s word choice }
 {
     if word == 0 {
         return Step::Empty;
     }
-    let p = chosen(word, choice);
-    let x = table[8 * s + p];
-    match entry(x, table.len() / 8) {
-        Entry::Switch(t) => Step::Moved(wide(t)),
+    match fabric.entry(s, chosen(word, choice)) {
+        Entry::Switch(t) => Step::Moved(t as usize),
         Entry::Node(a) => Step::Arrived(a),
-        Entry::Nothing => Step::Off,
-        Entry::Bad => Step::Off,
+        Entry::Nothing | Entry::Bad => Step::Off,
     }
 }
 
-// The permitted port with exactly (choice modulo k) permitted ports below it, k the number of permitted ports.
+/// The permitted port with exactly (choice modulo k) permitted ports below it, k the number of permitted ports.
+#[tactic(auto, using(crate::proofs::Laws::choosing), unfolding(rules::specs::Sets::count, rules::specs::Sets::sum))]
 fn chosen(word: u8, choice: u8) -> usize
     requires { zero < word }
     ensures { result ≡ port word choice }
 {
-    let wanted = long(choice) % u8::count_ones(word);
-    let mut below: u32 = 0;
-    let mut p = 0;
-    while p < 8 {
-        if (word >> p) % 2 == 1 {
+    let wanted = choice as u32 % word.count_ones();
+    let mut below = 0;
+    for p in 0..8 {
+        if (word >> p) & 1 == 1 {
             if below == wanted {
                 return p;
             }
             below += 1;
         }
-        p += 1;
     }
-    p
-}
-
-fn wide(x: u16) -> usize
-    ensures { result ≡ x }
-{
-    x as usize
-}
-
-fn long(x: u8) -> u32
-    ensures { result ≡ x }
-{
-    x as u32
-}
-
-fn narrow(x: usize) -> u16
-    requires { x < 65536 }
-    ensures { result ≡ x }
-{
-    x as u16
+    // Never reached, since the word is not 0; `port`, which it gives, says 8 here.
+    8
 }

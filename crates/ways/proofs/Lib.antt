@@ -6,3 +6,4 @@ pub mod MaskCode
 pub mod PairLaws
 pub mod MeetLaws
 pub mod PairMade
+pub mod PairOne

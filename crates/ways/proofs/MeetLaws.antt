@@ -7,13 +7,16 @@ use mathlib.Core.Path.{◌≡◌, refl, sym, ap, ◌∙◌, subst}
 use mathlib.Core.Bool.{Bool, false, ◌&&◌, not}
 use mathlib.Core.List.{List, []}
 use lib.Dec.{T, eqb, ltb, not_T}
-use lib.ListN.{length, get_or}
+use lib.ListN.{get_or}
 use borrow.Author.Tests.{lt-ltb, le-ltb, eq-eqb, ne_eqb}
-use Rattle.rules.specs.declared.Judgement.{Judgement}
+use Rattle.rules.specs.Answers.{number, place}
+use Rattle.rules.specs.declared.Refusal.{Refusal}
+use Rattle.rules.specs.declared.Refusal.TheVariants.{NotAttached, SameNode, Unreachable}
+use Rattle.std.specs.Prelude.{Option, Some, None, Ok, Err}
 use Rattle.rules.specs.Sets.{least}
 use Rattle.rules.specs.Net.{Distance, node}
 use Rattle.rules.specs.Table.{house, far_of, switches, kind_at}
-use Rattle.rules.specs.Look.{first}
+use Rattle.rules.specs.Look.{first, least_at}
 use Rattle.rules.specs.Run.{dist_to}
 use Rattle.rules.specs.RunTable.{stands, attached, home, is_entry_of}
 use Rattle.rules.specs.RunPair.{distance, look_apart}
@@ -21,10 +24,10 @@ use Rattle.rules.proofs.SetLaws.{and_i, true-T, T_and, least-is, not-lt}
 use Rattle.rules.proofs.Says.{first-none, first_some}
 use Rattle.rules.proofs.Tables.{far_of-wired}
 use Rattle.rules.proofs.Homes.{in-stands}
-use Rattle.wiring.proofs.Found.{find-attached, find-home}
+use Rattle.wiring.proofs.Found.{least_at-some, least_at_none, find-attached, find-home}
 use Rattle.ways.specs.declared.Met.{Met}
 use Rattle.ways.specs.Search.{Searched}
-use Rattle.ways.specs.Inner.{Listed, Meets}
+use Rattle.ways.specs.Inner.{Meets}
 use Rattle.ways.proofs.Forward.{depth-distance, depth-dist_to, unreachable-dist_to}
 
 pub nothing_said : first [] ≡ record { number = 0; place = 0 }
@@ -91,86 +94,75 @@ module _ (t : List ℕ) (a d : ℕ) where
 
   -- ---- so the answers of meet
 
-  pub meets-refused : (r : Met) (k : ℕ) → r.number ≡ k → zero < k → first (look_apart house t a d []) ≡ record { number = k; place = 0 } → Meets t a d r
-  meets-refused r k e l f =
-      let never : ¬ (r.number ≡ 0) = λ n. omega arith in
-      record {
-        number = e ∙ sym (ap (λ (j : Judgement). j.number) f);
-        home = λ n. absurd (never n);
-        distance = λ n. absurd (never n);
-        ready = λ n. absurd (never n);
-      }
+  pub meets-refused : (e : Refusal) → first (look_apart house t a d []) ≡ record { number = number e; place = place e } → Meets t a d (Err e)
+  meets-refused e f = record { answer = sym f; met = tt }
 
-  -- where the source and the target were found
-  module _ {i j : ℕ} (here : i ≡ least (8 * switches t) (λ k. is_entry_of a (kind_at house t k))) (there : j ≡ least (8 * switches t) (λ k. is_entry_of d (kind_at house t k))) where
-    inside : (x k : ℕ) → k ≡ least (8 * switches t) (λ k. is_entry_of x (kind_at house t k)) → ¬ (k ≡ 8 * (length t / 8)) → k < 8 * switches t
-    unfolding switches
-    inside x k e n = let b = (least-is (8 * switches t) (λ k. is_entry_of x (kind_at house t k))).bound in omega arith
+  -- where a processor was looked for
+  abbrev pub Looks : ℕ → Option ℕ → Type 0
+  Looks x o = o ≡ least_at (8 * switches t) (λ k. is_entry_of x (kind_at house t k))
 
-    stands-there : (x k : ℕ) → k ≡ least (8 * switches t) (λ k. is_entry_of x (kind_at house t k)) → ¬ (k ≡ 8 * (length t / 8)) → T (attached house t x)
-    stands-there x k e n = (find-attached house t x).1 (subst (λ (m : ℕ). m < 8 * switches t) e (inside x k e n))
+  stands-nowhere : (x : ℕ) → Looks x None → T (attached house t x) → ⊥
+  stands-nowhere x e h = let l = (find-attached house t x).0 h in let m = least_at_none (8 * switches t) (λ k. is_entry_of x (kind_at house t k)) e in omega arith
 
-    stands-nowhere : (x k : ℕ) → k ≡ least (8 * switches t) (λ k. is_entry_of x (kind_at house t k)) → k ≡ 8 * (length t / 8) → T (attached house t x) → ⊥
-    unfolding switches
-    stands-nowhere x k e n h = let l = (find-attached house t x).0 h in omega arith
+  stands-there : (x k : ℕ) → Looks x (Some k) → T (attached house t x)
+  stands-there x k e = let w = least_at-some (8 * switches t) (λ k. is_entry_of x (kind_at house t k)) e in (find-attached house t x).1 (let q = w.0 in let l = w.1 in omega arith)
 
-    pub no_source : {r : Met} → i ≡ 8 * (length t / 8) → r.number ≡ 4 → Meets t a d r
-    no_source {r} n e = meets-refused r 4 e (omega arith) (apart-missing (λ k. stands-nowhere a i here n k.0))
+  pub no_source : Looks a None → Meets t a d (Err NotAttached)
+  no_source n = meets-refused NotAttached (apart-missing (λ k. stands-nowhere a n k.0))
 
-    pub no_target : {r : Met} → j ≡ 8 * (length t / 8) → r.number ≡ 4 → Meets t a d r
-    no_target {r} n e = meets-refused r 4 e (omega arith) (apart-missing (λ k. stands-nowhere d j there n k.1))
+  pub no_target : Looks d None → Meets t a d (Err NotAttached)
+  no_target n = meets-refused NotAttached (apart-missing (λ k. stands-nowhere d n k.1))
 
-    -- both stand somewhere
-    module _ (m : ¬ (i ≡ 8 * (length t / 8))) (n : ¬ (j ≡ 8 * (length t / 8))) where
-      pub same-node : {r : Met} → a ≡ d → r.number ≡ 5 → Meets t a d r
-      same-node {r} e f = meets-refused r 5 f (omega arith) (apart-same (stands-there a i here m) (stands-there d j there n) e)
+  -- both stand somewhere
+  module _ {i j : ℕ} (here : Looks a (Some i)) (there : Looks d (Some j)) where
+    pub same-node : a ≡ d → Meets t a d (Err SameNode)
+    same-node e = meets-refused SameNode (apart-same (stands-there a i here) (stands-there d j there) e)
 
-      pub home-inside : i / 8 < switches t
-      home-inside = let l = inside a i here m in omega arith
+    pub home-inside : i / 8 < switches t
+    home-inside = let l = (least_at-some (8 * switches t) (λ k. is_entry_of a (kind_at house t k)) here).1 in omega arith
 
-      at_home : home house t a ≡ i / 8
-      at_home = find-home house t a ∙ ap (λ (x : ℕ). x / 8) (sym here)
+    at_home : home house t a ≡ i / 8
+    at_home = find-home house t a ∙ ap (λ (x : ℕ). x / 8) (sym (least_at-some (8 * switches t) (λ k. is_entry_of a (kind_at house t k)) here).0)
 
-      -- and were searched for
-      module _ (apart : ¬ (a ≡ d)) {order depth : List ℕ} {reached k : ℕ} (s : Searched (far_of house t) (switches t) (i / 8) order depth reached)
-          (first-at : k ≡ least reached (λ i. stands house t d (get_or order i 0))) where
-        far-off : distance house t a d ≡ dist_to (far_of house t) (switches t) d (i / 8)
-        unfolding distance
-        far-off = ap (dist_to (far_of house t) (switches t) d) at_home
+    -- and were searched for
+    module _ (apart : ¬ (a ≡ d)) {order depth : List ℕ} {reached : ℕ} (s : Searched (far_of house t) (switches t) (i / 8) order depth reached) where
+      far-off : distance house t a d ≡ dist_to (far_of house t) (switches t) d (i / 8)
+      unfolding distance
+      far-off = ap (dist_to (far_of house t) (switches t) d) at_home
 
-        pub not_found : {r : Met} → k ≡ reached → r.number ≡ 6 → Meets t a d r
-        not_found {r} e f =
-            meets-refused r 6 f (omega arith) (apart-far (stands-there a i here m) (stands-there d j there n) apart (far-off ∙ meet-far (i / 8) order depth reached s (sym first-at ∙ e)))
+      -- no switch of the order has it
+      pub not_found : None ≡ least_at reached (λ i. stands house t d (get_or order i 0)) → Meets t a d (Err Unreachable)
+      not_found e =
+          let b = (least-is reached (λ i. stands house t d (get_or order i 0))).bound in
+          let m = least_at_none reached (λ i. stands house t d (get_or order i 0)) e in
+          meets-refused Unreachable (apart-far (stands-there a i here) (stands-there d j there) apart (far-off ∙ meet-far (i / 8) order depth reached s (omega arith)))
 
-        k-less : ¬ (k ≡ reached) → least reached (λ i. stands house t d (get_or order i 0)) < reached
-        k-less e = let b = (least-is reached (λ i. stands house t d (get_or order i 0))).bound in omega arith
+      -- the first that has it is at place k
+      module _ {k : ℕ} (first-at : Some k ≡ least_at reached (λ i. stands house t d (get_or order i 0))) where
+        placed : (k ≡ least reached (λ i. stands house t d (get_or order i 0))) × (k < reached)
+        placed = least_at-some reached (λ i. stands house t d (get_or order i 0)) first-at
 
-        pub found-there : ¬ (k ≡ reached) → (k < reached) × (get_or order k 0 < switches t)
-        found-there e = let l = k-less e in let h : k < reached = omega arith in (h, s.inside (get_or order k 0) (s.listed k h))
+        pub found-small : switches t ≤ 64 → (k < 64) × (get_or order k 0 < 64)
+        found-small few = let x = placed.1 in let y = s.inside (get_or order k 0) (s.listed k x) in let b = s.few in (omega arith, omega arith)
 
-        pub found-small : length t ≤ 512 → ¬ (k ≡ reached) → (k < 64) × (get_or order k 0 < 64)
-        unfolding switches
-        found-small short e = let l = found-there e in let x = l.0 in let y = l.1 in let b = s.few in (omega arith, omega arith)
-
-        pub met-there : {r : Met} → length t ≤ 512 → ¬ (k ≡ reached) → r.number ≡ 0 → r.home ≡ i / 8 → r.distance ≡ get_or depth (get_or order k 0) 0
-            → r.found.order ≡ order → r.found.depth ≡ depth → r.found.reached ≡ reached → Meets t a d r
-        met-there {r} short e z h f p q w =
-            let v = meet-near (i / 8) order depth reached s (k-less e) in
-            let u : dist_to (far_of house t) (switches t) d (i / 8) ≡ get_or depth (get_or order k 0) 0 = v.0 ∙ ap (λ (x : ℕ). get_or depth (get_or order x 0) 0) (sym first-at) in
-            let x : distance house t a d ≡ r.distance = far-off ∙ u ∙ sym f in
+        pub met-there : {m : Met} → m.home ≡ i / 8 → m.distance ≡ get_or depth (get_or order k 0) 0
+            → m.found.order ≡ order → m.found.depth ≡ depth → m.found.reached ≡ reached → Meets t a d (Ok m)
+        met-there {m} h f p q w =
+            let l : least reached (λ i. stands house t d (get_or order i 0)) < reached = let e = placed.0 in let x = placed.1 in omega arith in
+            let v = meet-near (i / 8) order depth reached s l in
+            let y : get_or depth (get_or order (least reached (λ i. stands house t d (get_or order i 0))) 0) 0 ≡ m.distance =
+            ap (λ (x : ℕ). get_or depth (get_or order x 0) 0) (sym placed.0) ∙ sym f in
+            let x : distance house t a d ≡ m.distance = far-off ∙ v.0 ∙ y in
             let b : get_or depth (get_or order k 0) 0 ≤ switches t = s.small (get_or order k 0) in
-            let y : Distance (far_of house t) (i / 8) d r.distance = subst (Distance (far_of house t) (i / 8) d) (ap (λ (x : ℕ). get_or depth (get_or order x 0) 0) (sym first-at) ∙ sym f) v.1 in
+            let z : Distance (far_of house t) (i / 8) d m.distance = subst (Distance (far_of house t) (i / 8) d) y v.1 in
             record {
-              number = z ∙ sym (ap (λ (j : Judgement). j.number) (apart-met (stands-there a i here m) (stands-there d j there n) apart (omega arith)));
-              home = λ _. h ∙ sym at_home;
-              distance = λ _. sym x;
-              ready = λ _. record {
-                short = short;
-                searched = rw (h, p, q, w) s;
-                distance = rw h y;
-              };
+              answer = sym (apart-met (stands-there a i here) (stands-there d j there) apart (omega arith));
+              met = (
+                h ∙ sym at_home,
+                sym x,
+                record {
+                  searched = rw (h, p, q, w) s;
+                  distance = rw h z;
+                },
+              );
             }
-
-pub search-listed : (t : List ℕ) {h : ℕ} {order depth : List ℕ} {reached : ℕ} → length t ≤ 512 → Searched (far_of house t) (switches t) h order depth reached → Listed (switches t) order reached
-unfolding switches
-search-listed t {order = order} short s = record { few = let b = s.few in omega arith; inside = λ i l. s.inside (get_or order i 0) (s.listed i l) }

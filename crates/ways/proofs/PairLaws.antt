@@ -7,15 +7,18 @@ use mathlib.Core.List.{List, [], ◌∷◌, ◌++◌}
 use lib.Dec.{ltb}
 use lib.ListN.{length, take, drop}
 use borrow.Author.Tests.{lt-ltb, le-ltb}
-use Rattle.rules.specs.declared.Judgement.{Judgement}
-use Rattle.rules.specs.declared.Answer.{Answer}
+use Rattle.std.specs.Prelude.{Result, Ok, Err}
+use Rattle.rules.specs.declared.Refusal.{Refusal}
+use Rattle.rules.specs.declared.Refusal.TheVariants.{ShortOutput}
+use Rattle.rules.specs.Answers.{number, place, Judgement, Answer, judged, measured}
+use Rattle.rules.proofs.Answers.{number-some}
 use Rattle.rules.specs.Sets.{tabulate}
 use Rattle.rules.specs.Table.{Sizes, switches}
 use Rattle.rules.specs.Look.{Looked, first, answered}
 use Rattle.rules.specs.RunTable.{look_table, judge_of}
 use Rattle.rules.specs.RunPair.{distance, mask, look_apart, look7, look8, measure_of, mask_judgement, mask_answer, mask_memory}
-use Rattle.ways.specs.Pairs.{look_long, measure_pair, pair_judgement, pair_of}
-use Rattle.rules.proofs.Says.{Numbered, first-stop, first_past, first-none, first_some, answered-number, answered-zero, first-zero, answered-accepted, answered-refused, kept-accepted, kept-refused}
+use Rattle.ways.specs.Pairs.{look_long, measure_pair, pair_judgement, PairAnswer, pair_of, paired}
+use Rattle.rules.proofs.Says.{Numbered, first-stop, first_past, first-none, first_some, answered-number, answered-place, answered-zero, first-zero, answered-accepted, answered-refused, kept-accepted, kept-refused}
 use Rattle.rules.proofs.Tables.{sound-length}
 use Rattle.rules.specs.Promise.{Judged, Measured, Masked}
 use Rattle.ways.specs.declared.Pair.{Pair}
@@ -26,6 +29,10 @@ use Rattle.wiring.proofs.Found.{judge-refuses, judge-accepts, judge-is, judge-nu
 -- the answer of a refusal
 abbrev pub bare : Judgement → Answer
 bare j = record { number = j.number; place = j.place; distance = 0; count = 0; tries = 0 }
+
+-- where the judge refuses
+pub refuses : (z : Sizes) (t : List ℕ) (e : Refusal) → Judged z t (judged {A = Unit {0}} (Err e)) → ¬ ((judge_of z t).number ≡ 0)
+refuses z t e h n = let l = number-some e in let k : number e ≡ (judge_of z t).number = judge-number z t h in omega arith
 
 module _ (z : Sizes) (t : List ℕ) (a d : ℕ) where
   -- ---- after the judge
@@ -87,68 +94,76 @@ module _ (z : Sizes) (t : List ℕ) (a d : ℕ) where
     mask-made e =
         (ap (λ (x : Judgement). answered x (distance z t a d) 0 0) e ∙ answered-accepted (record { number = 0; place = 0 }) (distance z t a d) 0 0 refl, kept-accepted (mask_judgement z t a d out) _ out (ap (λ (x : Judgement). x.number) e))
 
-  -- a pair says the number of its refusals
-  pub pair-number : {p : Pair} → p ≡ pair_of z t a d → p.answer.number ≡ (pair_judgement z t a d).number
+  -- a pair that is refused says the number and the place of its refusals
+  pub pair-said : (e : Refusal) → paired (Err e) ≡ pair_of z t a d → record { number = number e; place = place e } ≡ pair_judgement z t a d
   unfolding pair_of
-  pair-number is = ap (λ (x : Pair). x.answer.number) is ∙ answered-number (pair_judgement z t a d) (distance z t a d) 0 0
+  pair-said e is =
+      let j = pair_judgement z t a d in
+      λ i. record {
+        number = (ap (λ (x : PairAnswer). x.answer.number) is ∙ answered-number j (distance z t a d) 0 0) i;
+        place = (ap (λ (x : PairAnswer). x.answer.place) is ∙ answered-place j (distance z t a d) 0 0) i;
+      }
 
   -- ---- the ways out of `distance`
 
-  module _ {j : Judgement} (h : Judged z t j) where
-    refused_as : {r : Answer} → r ≡ bare j → r ≡ bare (judge_of z t)
-    refused_as e = e ∙ ap bare (judge-is z t h)
+  pub distance-refused : (e : Refusal) → Judged z t (judged {A = Unit {0}} (Err e)) → Measured z t a d (measured (Err e))
+  distance-refused e h =
+      let n : ¬ ((judge_of z t).number ≡ 0) = refuses z t e h in
+      subst (Measured z t a d) (measure-refused n ∙ ap bare (sym (judge-is z t h))) (measured-met z t a d)
 
-    pub distance-refused : {r : Answer} → ¬ (j.number ≡ 0) → r ≡ bare j → Measured z t a d r
-    distance-refused n e =
-        subst (Measured z t a d) (sym (refused_as e ∙ sym (measure-refused (λ m. n (judge-number z t h ∙ m))))) (measured-met z t a d)
+  module _ (h : Judged z t (record { number = 0; place = 0 })) where
+    accepts : (judge_of z t).number ≡ 0
+    accepts = sym (judge-number z t h)
 
-    pub distance-given : {r : Answer} → j.number ≡ 0 → r ≡ measure_pair z t a d → Measured z t a d r
-    distance-given n e = subst (Measured z t a d) (sym (e ∙ sym (measure-judged (sym (judge-number z t h) ∙ n)))) (measured-met z t a d)
+    pub distance-given : (r : Result ℕ Refusal) → measured r ≡ measure_pair z t a d → Measured z t a d (measured r)
+    distance-given r e = subst (Measured z t a d) (measure-judged accepts ∙ sym e) (measured-met z t a d)
 
-    pub judged-few : j.number ≡ 0 → switches t ≤ z.most
-    judged-few n = (sound-length z t (judge-sound z t h n)).1
+    pub judged-few : switches t ≤ z.most
+    judged-few = (sound-length z t (judge-sound z t h refl)).1
 
-    -- ---- the ways out of `masks`
-    module _ (out : List ℕ) where
-      masked : {r : Answer} {o : List ℕ} → r ≡ mask_answer z t a d out → o ≡ mask_memory z t a d out → Masked z t a d out r o
-      masked e f = subst₂ (Masked z t a d out) (sym e) (sym f) (masked-met z t a d out)
+  -- ---- the ways out of `masks`
 
-      pub masks-refused : {r : Answer} → ¬ (j.number ≡ 0) → r ≡ bare j → Masked z t a d out r out
-      masks-refused n e =
-          let m = mask-refused out (judge_of z t) (mask-judge out (λ k. n (judge-number z t h ∙ k))) (λ k. n (judge-number z t h ∙ k)) in
-          masked (refused_as e ∙ sym m.0) (sym m.1)
+  module _ (out : List ℕ) where
+    masked : {r : Answer} {o : List ℕ} → r ≡ mask_answer z t a d out → o ≡ mask_memory z t a d out → Masked z t a d out r o
+    masked e f = subst₂ (Masked z t a d out) (sym e) (sym f) (masked-met z t a d out)
 
-      module _ (n : j.number ≡ 0) {p : Pair} (is : p ≡ pair_of z t a d) where
-        zero-judge : (judge_of z t).number ≡ 0
-        zero-judge = sym (judge-number z t h) ∙ n
+    -- where a refusal is what is given
+    gives : (e : Refusal) → mask_judgement z t a d out ≡ record { number = number e; place = place e } → Masked z t a d out (measured (Err e)) out
+    gives e f =
+        let m = mask-refused out (record { number = number e; place = place e }) f (λ i. let l = number-some e in omega arith) in masked (sym m.0) (sym m.1)
 
-        pub masks-none : ¬ (p.answer.number ≡ 0) → Masked z t a d out p.answer out
+    pub masks-refused : (e : Refusal) → Judged z t (judged {A = Unit {0}} (Err e)) → Masked z t a d out (measured (Err e)) out
+    masks-refused e h = gives e (mask-judge out (refuses z t e h) ∙ sym (judge-is z t h))
+
+    module _ (h : Judged z t (record { number = 0; place = 0 })) where
+      pub masks-none : (e : Refusal) → paired (Err e) ≡ pair_of z t a d → Masked z t a d out (measured (Err e)) out
+      masks-none e is = let p = pair-said e is in gives e (mask-pair out (accepts h) (λ n. let l = number-some e in let k = ap (λ (x : Judgement). x.number) p in omega arith) ∙ sym p)
+
+      module _ {p : Pair} (is : paired (Ok p) ≡ pair_of z t a d) where
+        zero-pair : (pair_judgement z t a d).number ≡ 0
         unfolding pair_of
-        masks-none k =
-            let l : ¬ ((pair_judgement z t a d).number ≡ 0) = λ m. k (pair-number is ∙ m) in
-            let m = mask-refused out (pair_judgement z t a d) (mask-pair out zero-judge l) l in
-            masked (ap (λ (x : Pair). x.answer) is ∙ answered-refused (pair_judgement z t a d) (distance z t a d) 0 0 l ∙ sym m.0) (sym m.1)
+        zero-pair = sym (ap (λ (x : PairAnswer). x.answer.number) is ∙ answered-number (pair_judgement z t a d) (distance z t a d) 0 0)
 
-        module _ (k : p.answer.number ≡ 0) where
-          zero-pair : (pair_judgement z t a d).number ≡ 0
-          zero-pair = sym (pair-number is) ∙ k
+        zero-place : (pair_judgement z t a d).place ≡ 0
+        unfolding pair_judgement
+        zero-place = ap (λ (j : Judgement). j.place) (first-zero (look_long z t a d ∷ look_apart z t a d (look7 z t a d ∷ [])) five zero-pair)
 
-          zero-place : (pair_judgement z t a d).place ≡ 0
-          unfolding pair_judgement
-          zero-place = ap (λ (j : Judgement). j.place) (first-zero (look_long z t a d ∷ look_apart z t a d (look7 z t a d ∷ [])) five zero-pair)
+        pub masks-short : length out < switches t → Masked z t a d out (measured (Err ShortOutput)) out
+        masks-short l = gives ShortOutput (mask-last out (accepts h) zero-pair ∙ first_some 8 (ltb (length out) (switches t)) [] (lt-ltb (length out) (switches t) l))
 
-          pub masks-short : {r : Answer} → length out < switches t → r ≡ bare (record { number = 8; place = 0 }) → Masked z t a d out r out
-          masks-short l e =
-              let f = mask-last out zero-judge zero-pair ∙ first_some 8 (ltb (length out) (switches t)) [] (lt-ltb (length out) (switches t) l) in
-              let m = mask-refused out (record { number = 8; place = 0 }) f (λ i. omega arith) in
-              masked (e ∙ sym m.0) (sym m.1)
+  module _ {j : Judgement} (h : Judged z t j) (out : List ℕ) (n : j.number ≡ 0) {p : PairAnswer} (is : p ≡ pair_of z t a d) (k : p.answer.number ≡ 0) where
+    zero-known : (pair_judgement z t a d).number ≡ 0
+    unfolding pair_of
+    zero-known = sym (ap (λ (x : PairAnswer). x.answer.number) is ∙ answered-number (pair_judgement z t a d) (distance z t a d) 0 0) ∙ k
 
-          pub masks-made : {o : List ℕ} → switches t ≤ length out → switches t ≤ z.most → o ≡ take (switches t) p.masks ++ drop (switches t) out → Masked z t a d out p.answer o
-          unfolding pair_of first
-          masks-made l few e =
-              let f = mask-last out zero-judge zero-pair ∙ first-none 8 (ltb (length out) (switches t)) [] (le-ltb (length out) (switches t) l) in
-              let m = mask-made out f in
-              let v : p.masks ≡ tabulate z.most (mask z t a d) = ap (λ (x : Pair). x.masks) is ∙ kept-accepted (pair_judgement z t a d) _ _ zero-pair in
-              masked
-              (ap (λ (x : Pair). x.answer) is ∙ answered-zero (pair_judgement z t a d) (distance z t a d) zero-place zero-pair ∙ sym m.0)
-              (e ∙ ap (λ (x : List ℕ). take (switches t) x ++ drop (switches t) out) v ∙ ap (λ (x : List ℕ). x ++ drop (switches t) out) (take-tabulate (switches t) z.most (mask z t a d) few) ∙ sym m.1)
+    pub masks-made : {o : List ℕ} → switches t ≤ length out → switches t ≤ z.most → o ≡ take (switches t) p.masks ++ drop (switches t) out → Masked z t a d out p.answer o
+    unfolding pair_of first pair_judgement
+    masks-made l few e =
+        let place : (pair_judgement z t a d).place ≡ 0 = ap (λ (j : Judgement). j.place) (first-zero (look_long z t a d ∷ look_apart z t a d (look7 z t a d ∷ [])) five zero-known) in
+        let f = mask-last out (sym (judge-number z t h) ∙ n) zero-known ∙ first-none 8 (ltb (length out) (switches t)) [] (le-ltb (length out) (switches t) l) in
+        let m = mask-made out f in
+        let v : p.masks ≡ tabulate z.most (mask z t a d) = ap (λ (x : PairAnswer). x.masks) is ∙ kept-accepted (pair_judgement z t a d) _ _ zero-known in
+        subst₂ (Masked z t a d out)
+        (sym (ap (λ (x : PairAnswer). x.answer) is ∙ answered-zero (pair_judgement z t a d) (distance z t a d) place zero-known ∙ sym m.0))
+        (sym (e ∙ ap (λ (x : List ℕ). take (switches t) x ++ drop (switches t) out) v ∙ ap (λ (x : List ℕ). x ++ drop (switches t) out) (take-tabulate (switches t) z.most (mask z t a d) few) ∙ sym m.1))
+        (masked-met z t a d out)

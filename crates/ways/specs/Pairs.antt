@@ -3,15 +3,25 @@
 --
 --   measure_pair z t a d      the distance of a pair
 --   pair_of z t a d           its distance, the source's switch and all masks, for a pair at most eight hops apart
-use Rattle.std.specs.Prelude.{ℕ, ◌*◌, cond, List, [], ◌∷◌, length, replicate, ltb}
-use Rattle.rules.specs.declared.Judgement.{Judgement}
-use Rattle.rules.specs.declared.Answer.{Answer}
+--   paired r                  what a result is in these numbers; zeros with a refusal
+use Rattle.std.specs.Prelude.{ℕ, Result, Ok, Err, ◌*◌, cond, List, [], ◌∷◌, length, replicate, ltb}
+use Rattle.rules.specs.Answers.{number, place, Judgement, Answer, refused, measured}
+use Rattle.rules.specs.declared.Refusal.{Refusal}
 use Rattle.ways.specs.declared.Pair.{Pair}
 use Rattle.rules.specs.Sets.{tabulate}
 use Rattle.rules.specs.Table.{Sizes}
 use Rattle.rules.specs.Look.{Looked, first, when, accepted, answered}
 use Rattle.rules.specs.RunTable.{home}
 use Rattle.rules.specs.RunPair.{distance, mask, look_apart, look7}
+
+pub record PairAnswer : Type 0 where
+  pub answer : Answer
+  pub home : ℕ
+  pub masks : List ℕ
+
+abbrev pub paired : Result Pair Refusal → PairAnswer
+paired (Ok p) = record { answer = measured (Ok p.distance); home = p.home; masks = p.masks }
+paired (Err e) = record { answer = refused (number e) (place e); home = 0; masks = replicate 64 0 }
 
 module _ (z : Sizes) (t : List ℕ) (a d : ℕ) where
   abbrev pub look_long : Looked
@@ -23,7 +33,7 @@ module _ (z : Sizes) (t : List ℕ) (a d : ℕ) where
   unfoldable pub pair_judgement : Judgement
   pair_judgement = first (look_long ∷ look_apart z t a d (look7 z t a d ∷ []))
 
-  unfoldable pub pair_of : Pair
+  unfoldable pub pair_of : PairAnswer
   pair_of =
       let j = pair_judgement in
       let m = tabulate z.most (mask z t a d) in

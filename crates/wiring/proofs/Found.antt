@@ -1,22 +1,23 @@
 -- The judge's answer at the head of a longer list of refusals, and what `find` found: the least index with the processor is at the least
 -- switch with it, since index i is port i % 8 of switch i / 8. Assumes nothing.
-use Prim.Native.Nat.{ℕ, ◌+◌, ◌*◌, ◌/◌, ◌%◌, ◌<◌}
+use Prim.Native.Nat.{ℕ, ◌+◌, ◌*◌, ◌/◌, ◌%◌, ◌≤◌, ◌<◌}
 use native.Mathlib.Omega.{arith}
-use mathlib.Core.Path.{◌≡◌, ap, ◌∙◌}
+use mathlib.Core.Path.{◌≡◌, refl, sym, ap, ◌∙◌, subst}
 use mathlib.Core.Logic.{◌↔◌}
-use mathlib.Core.Bool.{Bool}
+use mathlib.Core.Bool.{Bool, true, false, cond}
 use mathlib.Core.List.{List, [], ◌++◌}
-use lib.Dec.{T}
-use Rattle.rules.specs.declared.Judgement.{Judgement}
+use lib.Dec.{T, ltb, ltb→lt, lt→ltb}
+use Rattle.std.specs.Prelude.{Option, Some, None, is_some, unwrap_or}
+use Rattle.rules.specs.Answers.{Judgement}
 use Rattle.rules.specs.Sets.{least}
 use Rattle.rules.specs.Table.{Sizes, Sound, switches, kind_at, leads}
-use Rattle.rules.specs.Look.{Looked, first}
+use Rattle.rules.specs.Look.{Looked, first, least_at}
 use Rattle.rules.specs.RunTable.{is_entry_of, look_table, judge_of, stands, attached, home}
 use Rattle.rules.specs.Promise.{Judged}
 use Rattle.rules.specs.Refusals.{of_table}
 use Rattle.rules.proofs.Says.{Placed, says-clear, Numbered, first-stop, first_past}
 use Rattle.rules.proofs.Joined.{table-placed, clear-sound}
-use Rattle.rules.proofs.SetLaws.{any-yes, any_some, Least, least-is, least-one, least_under}
+use Rattle.rules.proofs.SetLaws.{T_true, any-yes, any_some, Least, least-is, least-one, least_under, not-lt}
 use Rattle.rules.proofs.Tables.{far-entry}
 use Rattle.rules.proofs.Homes.{is-entry, port-of, in-stands}
 use Rattle.rules.proofs.Kept.{judged-met}
@@ -46,6 +47,24 @@ module _ (z : Sizes) (t : List ℕ) where
   judge-number h = ap (λ (x : Judgement). x.number) (judge-is h)
 
 -- ---- the index found
+
+-- what is found is the least, and nothing where there is none
+module _ (n : ℕ) (f : ℕ → Bool) where
+  pub least_at-some : {i : ℕ} → Some i ≡ least_at n f → (i ≡ least n f) × (i < n)
+  unfolding least_at
+  least_at-some {i} e = at (ltb (least n f) n) refl e
+    where
+      at : (b : Bool) → ltb (least n f) n ≡ b → Some i ≡ cond b (Some (least n f)) None → (i ≡ least n f) × (i < n)
+      at true l h = let q : i ≡ least n f = ap (λ (o : Option ℕ). unwrap_or o 0) h in let m = ltb→lt (least n f) n (T_true l) in (q, omega arith)
+      at false l h = let q : true ≡ false = ap is_some h in absurd (subst T q tt)
+
+  pub least_at_none : None ≡ least_at n f → n ≤ least n f
+  unfolding least_at
+  least_at_none e = at (ltb (least n f) n) refl e
+    where
+      at : (b : Bool) → ltb (least n f) n ≡ b → None ≡ cond b (Some (least n f)) None → n ≤ least n f
+      at true l h = let q : false ≡ true = ap is_some h in absurd (subst T (sym q) tt)
+      at false l h = not-lt (λ m. subst T l (lt→ltb (least n f) n m))
 
 module _ (z : Sizes) (t : List ℕ) (a : ℕ) where
   -- the processor stands at index i

@@ -1,13 +1,13 @@
 -- The judge's answer from what its tests found: the first of the three refusals that applies, with its place. Each case goes down the list
 -- of `judge_of`, which keeps the promise by judged-met. Assumes nothing.
-use Prim.Native.Nat.{ℕ, ◌≤◌, ◌<◌, ◌%◌}
+use Prim.Native.Nat.{ℕ, ◌≤◌, ◌%◌}
 use mathlib.Core.Path.{◌≡◌, sym, subst}
 use mathlib.Core.Bool.{false}
 use mathlib.Core.List.{List}
-use borrow.Author.Tests.{lt-ltb, le-ltb, eq-eqb, ne_eqb}
+use borrow.Author.Tests.{le-ltb, eq-eqb, ne_eqb}
 use lib.ListN.{length}
-use Rattle.rules.specs.declared.Judgement.{Judgement}
-use Rattle.rules.specs.Sets.{least}
+use Rattle.std.specs.Prelude.{Option, Some, None}
+use Rattle.rules.specs.Answers.{Judgement}
 use Rattle.rules.specs.Table.{house, WrongLength}
 use Rattle.rules.specs.Look.{pick, first, when, least_at}
 use Rattle.rules.specs.RunTable.{bad_length, bad_at, again, judge_of}
@@ -28,16 +28,16 @@ module _ (t : List ℕ) where
   unfolding bad_length
   length-right some few whole = simp (ne_eqb (length t) 0 some, le-ltb 512 (length t) few, eq-eqb (length t % 8) 0 whole)
 
-  module _ (right : bad_length house t ≡ false) {b : ℕ} (bad : b ≡ least (length t) (bad_at house t)) where
-    pub bad-refused : b < length t → Judged house t (record { number = 2; place = b })
-    unfolding judge_of first pick when least_at
-    bad-refused l = told (simp (right, sym bad, lt-ltb b (length t) l))
+  module _ (right : bad_length house t ≡ false) {bad : Option ℕ} (b : bad ≡ least_at (length t) (bad_at house t)) where
+    pub bad-refused : {i : ℕ} → bad ≡ Some i → Judged house t (record { number = 2; place = i })
+    unfolding judge_of first pick when
+    bad-refused e = told (simp (right, sym b, e))
 
-    module _ (none : length t ≤ b) {a : ℕ} (twice : a ≡ least (length t) (again house t)) where
-      pub again-refused : a < length t → Judged house t (record { number = 3; place = a })
-      unfolding judge_of first pick when least_at
-      again-refused l = told (simp (right, sym bad, le-ltb b (length t) none, sym twice, lt-ltb a (length t) l))
+    module _ (none : bad ≡ None) {twice : Option ℕ} (a : twice ≡ least_at (length t) (again house t)) where
+      pub again-refused : {i : ℕ} → twice ≡ Some i → Judged house t (record { number = 3; place = i })
+      unfolding judge_of first pick when
+      again-refused e = told (simp (right, sym b, none, sym a, e))
 
-      pub accepted : length t ≤ a → Judged house t (record { number = 0; place = 0 })
-      unfolding judge_of first pick when least_at
-      accepted l = told (simp (right, sym bad, le-ltb b (length t) none, sym twice, le-ltb a (length t) l))
+      pub accepted : twice ≡ None → Judged house t (record { number = 0; place = 0 })
+      unfolding judge_of first pick when
+      accepted e = told (simp (right, sym b, none, sym a, e))

@@ -1,26 +1,24 @@
 -- The scans of a table: what an entry is by its range, that a scan which passed over every index below i without a hit has found the
 -- least hit where it stops, and what each test of an entry says of the index. Assumes nothing.
-use Prim.Native.Nat.{ℕ, zero, suc, ◌+◌, ◌-◌, ◌/◌, ◌≤◌, ◌<◌, zero-le}
-use native.Mathlib.Nat.{not-suc-le-zero, le_of_suc-le-suc}
-use native.Mathlib.Decide.{dec_lt}
+use Prim.Native.Nat.{ℕ, ◌+◌, ◌-◌, ◌/◌, ◌≤◌, ◌<◌, zero-le}
+use native.Mathlib.Nat.{not-suc-le-zero}
 use native.Mathlib.Omega.{arith}
 use mathlib.Core.Path.{◌≡◌, refl, sym, ap, ◌∙◌, subst}
-use mathlib.Core.Logic.{⊎_elim}
-use mathlib.Core.Bool.{Bool, true, false}
-use mathlib.Core.List.{List, [], ◌∷◌}
+use mathlib.Core.Bool.{Bool}
+use Rattle.std.specs.Prelude.{Some, None}
+use mathlib.Core.List.{List}
 use borrow.Author.Tests.{lt-ltb, le-ltb, le-leb, lt-leb, eq-eqb, ne_eqb}
 use borrow.Author.Count.{below_more}
-use denote.Enum.Declared.{tag_of}
-use types.Run.{OneOf}
-use lib.Dec.{T, eqb, eqb→eq}
+use lib.Dec.{T}
 use lib.ListN.{length, get_or}
-use Rattle.rules.specs.contracts.Entry.{the_type}
+use Rattle.std.proofs.lemmas.List.{get_or_default}
 use Rattle.rules.specs.declared.Entry.{Entry}
 use Rattle.rules.specs.declared.Entry.TheVariants.{Switch, Node, Nothing, Bad}
-use Rattle.rules.specs.Sets.{least, any}
+use Rattle.rules.specs.Look.{least_at}
+use Rattle.rules.specs.Sets.{least}
 use Rattle.rules.specs.Table.{house, no_link, kind, kind_at, switches}
 use Rattle.rules.specs.RunTable.{is_bad, is_entry_of, same_node, bad_at, again}
-use Rattle.rules.proofs.SetLaws.{T_true, eq-T, least-is, least-one, any-yes, any_some}
+use Rattle.rules.proofs.SetLaws.{least-is, least-one, any-yes, any_some}
 use Rattle.rules.proofs.Tables.{kind-node}
 use Rattle.rules.proofs.Homes.{is-entry, same-node, node-same}
 
@@ -67,26 +65,16 @@ module _ {n : ℕ} {f : ℕ → Bool} where
   pub passed-all : {i : ℕ} → Passed n f i → n ≤ i → i ≡ least n f
   passed-all p l = least-one (record { bound = p.bound; before = p.none; hit = λ m. absurd (omega arith) }) (least-is n f)
 
--- ---- the kinds by their tags
+  -- the index of the hit, and none where the scan ends
+  pub passed-some : {i : ℕ} → Passed n f i → i < n → T (f i) → Some i ≡ least_at n f
+  unfolding least_at
+  passed-some {i} p l h = let e = passed-hit p h in rw (sym e) (simp (lt-ltb i n l))
 
-is-node : (x : Entry) → tag_of the_type x ≡ 1 → (a : ℕ) × (x ≡ Node a)
-is-node (Switch s) h = absurd (omega arith)
-is-node (Node a) h = (a, refl)
-is-node Nothing h = absurd (omega arith)
-is-node Bad h = absurd (omega arith)
-
-not-node : (x : Entry) (a : ℕ) → OneOf (0 ∷ 2 ∷ 3 ∷ []) (tag_of the_type x) → x ≡ Node a → ⊥
-not-node (Switch s) a h q = let z : ◌≡◌ {A = ℕ} 0 1 = cc in omega arith
-not-node (Node b) a h q = ⊎_elim (λ k. omega arith) (⊎_elim (λ k. omega arith) (λ k. omega arith)) h
-not-node Nothing a h q = let z : ◌≡◌ {A = ℕ} 0 1 = cc in omega arith
-not-node Bad a h q = let z : ◌≡◌ {A = ℕ} 0 1 = cc in omega arith
+  pub passed_none : {i : ℕ} → Passed n f i → n ≤ i → None ≡ least_at n f
+  unfolding least_at
+  passed_none {i} p l = let e = passed-all p l in rw (sym e) (simp (le-ltb i n l))
 
 -- ---- what is read at an index
-
-pub get_d-inside : (t : List ℕ) (i a b : ℕ) → i < length t → get_or t i a ≡ get_or t i b
-get_d-inside [] i a b l = absurd (not-suc-le-zero l)
-get_d-inside (x ∷ t) zero a b l = refl
-get_d-inside (x ∷ t) (suc i) a b l = get_d-inside t i a b (le_of_suc-le-suc l)
 
 -- e is what the entry at index i is, as the code reads it
 abbrev pub Read : List ℕ → ℕ → Entry → Type 0
@@ -94,7 +82,7 @@ Read t i e = e ≡ kind house (length t / 8) (get_or t i 0)
 
 pub kind-at : (t : List ℕ) (i : ℕ) → i < length t → kind_at house t i ≡ kind house (length t / 8) (get_or t i 0)
 unfolding kind_at switches
-kind-at t i l = ap (kind house (length t / 8)) (get_d-inside t i no_link 0 l)
+kind-at t i l = ap (kind house (length t / 8)) (get_or_default t i no_link 0 l)
 
 module _ (t : List ℕ) (i : ℕ) (inside : i < length t) where
   pub kind-read : kind_at house t i ≡ kind house (length t / 8) (get_or t i 0)
@@ -102,37 +90,30 @@ module _ (t : List ℕ) (i : ℕ) (inside : i < length t) where
 
   -- ---- an entry of no kind
 
-  pub bad-told : {e : Entry} → Read t i e → tag_of the_type e ≡ 3 → T (bad_at house t i)
+  pub bad-told : {e : Entry} → Read t i e → e ≡ Bad → T (bad_at house t i)
   unfolding bad_at is_bad
-  bad-told {e} r h = subst (λ (x : Entry). T (is_bad x)) (r ∙ sym kind-read) (at e h)
-    where
-      at : (x : Entry) → tag_of the_type x ≡ 3 → T (is_bad x)
-      at (Switch s) k = absurd (omega arith)
-      at (Node a) k = absurd (omega arith)
-      at Nothing k = absurd (omega arith)
-      at Bad k = tt
+  bad-told r h = subst (λ (x : Entry). T (is_bad x)) (sym h ∙ r ∙ sym kind-read) tt
 
-  pub bad-not : {e : Entry} → Read t i e → OneOf (0 ∷ 1 ∷ 2 ∷ []) (tag_of the_type e) → T (bad_at house t i) → ⊥
+  pub bad-not : {e : Entry} → Read t i e → ¬ (e ≡ Bad) → ¬ (T (bad_at house t i))
   unfolding bad_at is_bad
-  bad-not {e} r h k = at e h (subst (λ (x : Entry). T (is_bad x)) (kind-read ∙ sym r) k)
+  bad-not {e} r h k = h (bad-only e (subst (λ (x : Entry). T (is_bad x)) (kind-read ∙ sym r) k))
     where
-      at : (x : Entry) → OneOf (0 ∷ 1 ∷ 2 ∷ []) (tag_of the_type x) → T (is_bad x) → ⊥
-      at (Switch s) h m = m
-      at (Node a) h m = m
-      at Nothing h m = m
-      at Bad h m = ⊎_elim (λ q. omega arith) (⊎_elim (λ q. omega arith) (λ q. omega arith)) h
+      bad-only : (x : Entry) → T (is_bad x) → x ≡ Bad
+      bad-only (Switch s) m = absurd m
+      bad-only (Node a) m = absurd m
+      bad-only Nothing m = absurd m
+      bad-only Bad m = refl
 
   -- ---- a processor that stands lower too
 
-  pub again-told : {e : Entry} → Read t i e → tag_of the_type e ≡ 1 → (k : ℕ) → k < i → get_or t k 0 ≡ get_or t i 0 → T (again house t i)
+  pub again-told : {e : Entry} {a : ℕ} → Read t i e → e ≡ Node a → (k : ℕ) → k < i → get_or t k 0 ≡ get_or t i 0 → T (again house t i)
   unfolding again
-  again-told {e} r h k l q =
-      let a = is-node e h in
-      let here : kind_at house t i ≡ Node a.0 = kind-read ∙ sym r ∙ a.1 in
-      let there : kind_at house t k ≡ Node a.0 = kind-at t k (omega arith) ∙ ap (kind house (length t / 8)) q ∙ sym r ∙ a.1 in
-      any-yes i (λ j. same_node (kind_at house t j) (kind_at house t i)) k l (node-same (kind_at house t k) (kind_at house t i) a.0 there here)
+  again-told {e} {a} r h k l q =
+      let here : kind_at house t i ≡ Node a = kind-read ∙ sym r ∙ h in
+      let there : kind_at house t k ≡ Node a = kind-at t k (omega arith) ∙ ap (kind house (length t / 8)) q ∙ sym r ∙ h in
+      any-yes i (λ j. same_node (kind_at house t j) (kind_at house t i)) k l (node-same (kind_at house t k) (kind_at house t i) a there here)
 
-  pub again-not : ((k : ℕ) → k < i → get_or t k 0 ≡ get_or t i 0 → ⊥) → T (again house t i) → ⊥
+  pub again-not : ((k : ℕ) → k < i → get_or t k 0 ≡ get_or t i 0 → ⊥) → ¬ (T (again house t i))
   unfolding again
   again-not none h =
       let w = any_some i (λ j. same_node (kind_at house t j) (kind_at house t i)) h in
@@ -142,12 +123,12 @@ module _ (t : List ℕ) (i : ℕ) (inside : i < length t) where
       let there = (kind-node house (length t / 8) (get_or t w.0 0) s.0 (sym (kind-at t w.0 (omega arith)) ∙ s.1)).1 in
       none w.0 l (there ∙ sym here)
 
-  pub again-other : {e : Entry} → Read t i e → OneOf (0 ∷ 2 ∷ 3 ∷ []) (tag_of the_type e) → T (again house t i) → ⊥
+  pub again-other : {e : Entry} → Read t i e → ((a : ℕ) → ¬ (e ≡ Node a)) → ¬ (T (again house t i))
   unfolding again
   again-other {e} r o h =
       let w = any_some i (λ j. same_node (kind_at house t j) (kind_at house t i)) h in
       let s = same-node (kind_at house t w.0) (kind_at house t i) w.2 in
-      not-node e s.0 o (r ∙ sym kind-read ∙ s.2)
+      o s.0 (r ∙ sym kind-read ∙ s.2)
 
   -- ---- the index of a processor
 
@@ -158,25 +139,5 @@ module _ (t : List ℕ) (i : ℕ) (inside : i < length t) where
     pub stands-not : {a : ℕ} → e ≡ Node a → (a ≡ node → ⊥) → T (is_entry_of node (kind_at house t i)) → ⊥
     stands-not q k h = let same : e ≡ Node node = r ∙ sym kind-read ∙ (is-entry node (kind_at house t i)).0 h in k (cc)
 
-    pub stands-other : OneOf (0 ∷ 2 ∷ 3 ∷ []) (tag_of the_type e) → T (is_entry_of node (kind_at house t i)) → ⊥
-    stands-other o h = not-node e node o (r ∙ sym kind-read ∙ (is-entry node (kind_at house t i)).0 h)
-
--- ---- some entries at once
-
-module _ (t : List ℕ) (j n x : ℕ) where
-  is : ℕ → Bool
-  is k = eqb (get_or t (j + k) 0) x
-
-  pub among_none : any n (λ k. eqb (get_or t (j + k) 0) x) ≡ false → ((k : ℕ) → k < j → get_or t k 0 ≡ x → ⊥) → (k : ℕ) → k < j + n → get_or t k 0 ≡ x → ⊥
-  unfolding is
-  among_none e below k l q = at (dec_lt k j)
-    where
-      at : Dec (k < j) → ⊥
-      at (yes m) = below k m q
-      at (no m) =
-          let p : j + (k - j) ≡ k = omega arith in
-          subst T e (any-yes n is (k - j) (omega arith) (subst (λ (z : ℕ). T (eqb (get_or t z 0) x)) (sym p) (eq-T (get_or t k 0) x q)))
-
-  pub among-some : any n (λ k. eqb (get_or t (j + k) 0) x) ≡ true → (k : ℕ) × (k < j + n) × (get_or t k 0 ≡ x)
-  unfolding is
-  among-some e = let a = any_some n is (T_true e) in (j + a.0, (let l = a.1 in omega arith), eqb→eq (get_or t (j + a.0) 0) x a.2)
+    pub stands-other : ((a : ℕ) → ¬ (e ≡ Node a)) → ¬ (T (is_entry_of node (kind_at house t i)))
+    stands-other o h = o node (r ∙ sym kind-read ∙ (is-entry node (kind_at house t i)).0 h)

@@ -1,3 +1,4 @@
 pub mod Laws
 pub mod Judging
 pub mod Found
+pub mod Reading

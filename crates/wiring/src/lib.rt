@@ -1,21 +1,29 @@
-// Reading a wiring table: what an entry is, whether the table is sound, and where a processor stands.
+//! Reading a wiring table: what an entry is, whether the table is sound, where a processor stands, and what a port leads to.
+//! Tables are numbers, as C callers lend them; what they mean is read here alone. How many switches there are is worked out where it is needed,
+//! as `len() / 8`: a table that is not judged has no type of its own, and one for a length alone is no plainer.
 #![tactic(auto)]
 
-ghost use Rattle.std.specs.Prelude.{◌≡◌, ◌+◌, ◌*◌, ◌≤◌, eqb, length, get_or};
-ghost use Rattle.rules.specs.Sets.{least, any};
+ghost use Rattle.std.specs.Prelude.{◌≡◌, ◌*◌, length};
+ghost use Rattle.rules.specs.Answers.{judged};
+ghost use Rattle.rules.specs.Look.{least_at};
 ghost use Rattle.rules.specs.Table.{house, kind, kind_at, switches};
 ghost use Rattle.rules.specs.Promise.{Judged};
 ghost use Rattle.rules.specs.RunTable.{bad_at, again, is_entry_of};
 
-use rules::{Entry, Judgement};
+mod fabric;
 
-// What the entry x is in a table of n switches.
+pub use fabric::Fabric;
+use rules::{Entry, Refusal};
+
+/// What the entry `x` is in a table of `n` switches.
+#[tactic(auto, unfolding(rules::specs::Table::kind))]
 pub fn entry(x: u16, n: usize) -> Entry
     ensures { result ≡ kind house n x }
 {
-    if as_index(x) < n {
+    if (x as usize) < n {
         return Entry::Switch(x);
     }
+    // The numbers are those of the table, as C callers lend them.
     match x {
         1000..=1511 => Entry::Node(x - 1000),
         65535 => Entry::Nothing,
@@ -23,140 +31,71 @@ pub fn entry(x: u16, n: usize) -> Entry
     }
 }
 
-fn as_index(x: u16) -> usize
-    ensures { result ≡ x }
+/// Judges a table: it is refused for its length, for an entry of no kind, or for a processor at two ports, in this order.
+pub fn judge(table: &[u16]) -> Result<(), Refusal>
+    ensures { Judged house table.now (judged result) }
 {
-    x as usize
+    let length = table.len();
+    if length == 0 || 512 < length || length % 8 != 0 {
+        return Err(Refusal::WrongLength);
+    }
+    if let Some(at) = first_bad(table) {
+        return Err(Refusal::BadEntry { at });
+    }
+    if let Some(at) = first_again(table) {
+        return Err(Refusal::ProcessorTwice { at });
+    }
+    Ok(())
 }
 
-// The refusal of a table: 1 for its length, 2 for an entry of no kind, 3 for a processor at two ports; 0 where it is sound.
-pub fn judge(table: &[u16]) -> Judgement
-    ensures { Judged house table.now result }
-{
-    let len = table.len();
-    if len == 0 {
-        return Judgement {
-            number: 1,
-            place: 0,
-        };
-    }
-    if 512 < len {
-        return Judgement {
-            number: 1,
-            place: 0,
-        };
-    }
-    if len % 8 != 0 {
-        return Judgement {
-            number: 1,
-            place: 0,
-        };
-    }
-    let place = first_bad(table);
-    if place < len {
-        return Judgement { number: 2, place };
-    }
-    let twice = first_again(table);
-    if twice < len {
-        return Judgement {
-            number: 3,
-            place: twice,
-        };
-    }
-    Judgement {
-        number: 0,
-        place: 0,
-    }
-}
-
-// The lowest index whose entry is of no kind, or the length.
-fn first_bad(table: &[u16]) -> usize
-    ensures { result ≡ least (length table.now) (bad_at house table.now) }
+/// The lowest index whose entry is of no kind.
+fn first_bad(table: &[u16]) -> Option<usize>
+    ensures { result ≡ least_at (length table.now) (bad_at house table.now) }
 {
     let n = table.len() / 8;
-    let mut i = 0;
-    while i < table.len() {
-        let x = table[i];
-        if let Entry::Bad = entry(x, n) {
-            return i;
+    for i in 0..table.len() {
+        if let Entry::Bad = entry(table[i], n) {
+            return Some(i);
         }
-        i += 1;
     }
-    i
+    None
 }
 
-// The lowest index whose processor stands at a lower index too, or the length. The lower entries are looked through 64 at a time.
-fn first_again(table: &[u16]) -> usize
-    ensures { result ≡ least (length table.now) (again house table.now) }
+/// The lowest index whose processor stands at a lower index too.
+fn first_again(table: &[u16]) -> Option<usize>
+    ensures { result ≡ least_at (length table.now) (again house table.now) }
 {
     let n = table.len() / 8;
-    let mut i = 0;
-    let at = 'scan: loop {
-        if i == table.len() {
-            break 'scan i;
-        }
-        let x = table[i];
-        if let Entry::Node(_) = entry(x, n) {
-            let mut j = 0;
-            while j < i {
-                let next = block(i - j);
-                if among(table, j, next, x) {
-                    break 'scan i;
+    // The rules name this form: a scan left by a label, with the index.
+    'scan: {
+        for i in 0..table.len() {
+            if let Entry::Node(_) = entry(table[i], n) {
+                // No exit of its own: so many entries are compared at once, and with one the judge takes four times as long.
+                let mut met = false;
+                for j in 0..i {
+                    met |= table[j] == table[i];
                 }
-                j += next;
+                if met {
+                    break 'scan Some(i);
+                }
             }
         }
-        i += 1;
-    };
-    at
-}
-
-// The length of the next block of the entries that are left: 64 at most.
-fn block(left: usize) -> usize
-    requires { 1 ≤ left }
-    ensures { (1 ≤ result) × (result ≤ left) }
-{
-    if left < 64 {
-        return left;
+        None
     }
-    64
 }
 
-// Whether one of the n entries from j on is x. There is no early exit, so that many are compared at once.
-fn among(table: &[u16], j: usize, n: usize, x: u16) -> bool
-    requires { j + n ≤ length table.now }
-    ensures { result ≡ any n (λ k. eqb (get_or table.now (j + k) 0) x) }
-{
-    let mut met = false;
-    let mut k = 0;
-    while k < n {
-        met = met | (table[j + k] == x);
-        k += 1;
-    }
-    met
-}
-
-// The index at which the processor stands, so port index % 8 of switch index / 8; or, if it stands nowhere, the number of all ports.
-pub fn find(table: &[u16], node: u64) -> usize
-    ensures { result ≡ least (8 * switches table.now) (λ i. is_entry_of node (kind_at house table.now i)) }
+/// The index at which the processor stands, so port index % 8 of switch index / 8. A scan as in `first_bad`, for another question and another
+/// end; one function that takes the question is no plainer.
+pub fn find(table: &[u16], node: u64) -> Option<usize>
+    ensures { result ≡ least_at (8 * switches table.now) (λ i. is_entry_of node (kind_at house table.now i)) }
 {
     let n = table.len() / 8;
-    let ports = 8 * n;
-    let mut i = 0;
-    while i < ports {
-        let x = table[i];
-        if let Entry::Node(a) = entry(x, n) {
-            if as_number(a) == node {
-                return i;
+    for i in 0..8 * n {
+        if let Entry::Node(a) = entry(table[i], n) {
+            if a as u64 == node {
+                return Some(i);
             }
         }
-        i += 1;
     }
-    i
-}
-
-fn as_number(x: u16) -> u64
-    ensures { result ≡ x }
-{
-    x as u64
+    None
 }

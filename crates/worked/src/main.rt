@@ -1,10 +1,9 @@
-// Runs the worked cases of distance, masks, header issue and the header test, and prints what they give; stdout holds what an independent
-// implementation gives.
+//! Runs the worked cases of distance, masks, header issue and the header test, and prints what they give; stdout holds what an independent
+//! implementation gives.
 #![tactic(auto)]
 
 mod on_header;
 mod on_ways;
-mod show;
 
 use std::io;
 

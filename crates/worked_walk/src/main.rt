@@ -1,10 +1,9 @@
-// Runs the worked cases of the walk and of the field reader, and prints what they give; stdout holds what an independent implementation
-// gives. A crate beside `worked`, whose show.rt it has a copy of, so that both are proved at once.
+//! Runs the worked cases of the walk and of the field reader, and prints what they give; stdout holds what an independent implementation
+//! gives. A crate beside `worked`, so that both are proved at once.
 #![tactic(auto)]
 
 mod on_fields;
 mod on_walk;
-mod show;
 
 use std::io;
 

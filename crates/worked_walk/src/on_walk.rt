@@ -1,7 +1,6 @@
-// The worked cases of the walk, a few in each function.
-use crate::show::{half, number, say, small, wide};
+//! The worked cases of the walk, a few in each function. A case is its parameters, as in `worked`.
 use networks::{A, B};
-use rules::Ending;
+use show::told;
 use std::io;
 
 pub(crate) fn run(rt: &impl Print) -> io::Result<()> {
@@ -19,7 +18,7 @@ pub(crate) fn run(rt: &impl Print) -> io::Result<()> {
 fn endings(rt: &impl Print) -> io::Result<()> {
     walked(
         rt,
-        b"A from 0, 30 02 01 with 3 0 0:",
+        "A from 0, 30 02 01 with 3 0 0:",
         &A,
         0,
         b"\x30\x02\x01",
@@ -27,7 +26,7 @@ fn endings(rt: &impl Print) -> io::Result<()> {
     )?;
     walked(
         rt,
-        b"A from 0, 02 01 with 0 0:",
+        "A from 0, 02 01 with 0 0:",
         &A,
         0,
         b"\x02\x01",
@@ -35,7 +34,7 @@ fn endings(rt: &impl Print) -> io::Result<()> {
     )?;
     walked(
         rt,
-        b"A from 0, 10 02 with 0 0:",
+        "A from 0, 10 02 with 0 0:",
         &A,
         0,
         b"\x10\x02",
@@ -47,7 +46,7 @@ fn endings(rt: &impl Print) -> io::Result<()> {
 fn delivered(rt: &impl Print) -> io::Result<()> {
     walked(
         rt,
-        b"A from 0, 10 02 01 with 9 9 9 9:",
+        "A from 0, 10 02 01 with 9 9 9 9:",
         &A,
         0,
         b"\x10\x02\x01",
@@ -55,7 +54,7 @@ fn delivered(rt: &impl Print) -> io::Result<()> {
     )?;
     walked(
         rt,
-        b"A from 2, 30 01 01 with 0 5 200:",
+        "A from 2, 30 01 01 with 0 5 200:",
         &A,
         2,
         b"\x30\x01\x01",
@@ -65,26 +64,26 @@ fn delivered(rt: &impl Print) -> io::Result<()> {
 }
 
 fn at_a_switch(rt: &impl Print) -> io::Result<()> {
-    walked(rt, b"A from 0, no word:", &A, 0, b"", b"")?;
+    walked(rt, "A from 0, no word:", &A, 0, b"", b"")?;
     walked(
         rt,
-        b"A from 0, 10 00 01 with 0 0 0:",
+        "A from 0, 10 00 01 with 0 0 0:",
         &A,
         0,
         b"\x10\x00\x01",
         b"\x00\x00\x00",
     )?;
-    walked(rt, b"A from 0, 00:", &A, 0, b"\x00", b"\x00")?;
-    walked(rt, b"A from 0, 04:", &A, 0, b"\x04", b"\x00")?;
+    walked(rt, "A from 0, 00:", &A, 0, b"\x00", b"\x00")?;
+    walked(rt, "A from 0, 04:", &A, 0, b"\x04", b"\x00")?;
     Ok(())
 }
 
 fn refusals(rt: &impl Print) -> io::Result<()> {
     let nine = b"\x10\x02\x01\x01\x01\x01\x01\x01\x01";
-    walked(rt, b"A from 0, nine words:", &A, 0, nine, nine)?;
+    walked(rt, "A from 0, nine words:", &A, 0, nine, nine)?;
     walked(
         rt,
-        b"A from 0, three words with two choices:",
+        "A from 0, three words with two choices:",
         &A,
         0,
         b"\x10\x02\x01",
@@ -95,30 +94,16 @@ fn refusals(rt: &impl Print) -> io::Result<()> {
 
 fn no_choice(rt: &impl Print) -> io::Result<()> {
     let nine = b"\x10\x02\x01\x01\x01\x01\x01\x01\x01";
-    walked(
-        rt,
-        b"A from 0, nine words with no choice:",
-        &A,
-        0,
-        nine,
-        b"",
-    )?;
-    walked(
-        rt,
-        b"A from 9, nine words with no choice:",
-        &A,
-        9,
-        nine,
-        b"",
-    )?;
-    walked(rt, b"of length 7 from 9:", &A[..7], 9, b"\x10", b"")?;
+    walked(rt, "A from 0, nine words with no choice:", &A, 0, nine, b"")?;
+    walked(rt, "A from 9, nine words with no choice:", &A, 9, nine, b"")?;
+    walked(rt, "of length 7 from 9:", &A[..7], 9, b"\x10", b"")?;
     Ok(())
 }
 
 fn on_b(rt: &impl Print) -> io::Result<()> {
     walked(
         rt,
-        b"B from 0, 10 07 01 with 0 1 0:",
+        "B from 0, 10 07 01 with 0 1 0:",
         &B,
         0,
         b"\x10\x07\x01",
@@ -126,7 +111,7 @@ fn on_b(rt: &impl Print) -> io::Result<()> {
     )?;
     walked(
         rt,
-        b"B from 0, 20 04 01 with 1 1 1:",
+        "B from 0, 20 04 01 with 1 1 1:",
         &B,
         0,
         b"\x20\x04\x01",
@@ -140,7 +125,7 @@ fn self_link(rt: &impl Print) -> io::Result<()> {
     t[6] = 0;
     walked(
         rt,
-        b"A with a self link, 40 40 40 02 with 0 0 0 0:",
+        "A with a self link, 40 40 40 02 with 0 0 0 0:",
         &t,
         0,
         b"\x40\x40\x40\x02",
@@ -148,61 +133,45 @@ fn self_link(rt: &impl Print) -> io::Result<()> {
     )?;
     walked(
         rt,
-        b"A with a self link, 40 40 with 0 0:",
+        "A with a self link, 40 40 with 0 0:",
         &t,
         0,
         b"\x40\x40",
         b"\x00\x00",
     )?;
     t[31] = 1600;
-    walked(rt, b"A with a bad entry:", &t, 0, b"\x01", b"\x00")?;
+    walked(rt, "A with a bad entry:", &t, 0, b"\x01", b"\x00")?;
     Ok(())
 }
 
-// A word of all ones at a switch whose ports have eight processors: each choice byte takes its port.
+/// A word of all ones at a switch whose ports have eight processors: each choice byte takes its port.
 fn all_choices(rt: &impl Print) -> io::Result<()> {
-    let mut c: u8 = 0;
-    while c < 255 {
+    for c in 0..=255u8 {
         choice(rt, c)?;
-        c += 1;
     }
-    choice(rt, 255)?;
-    say(rt, b"\n")?;
-    Ok(())
+    println!(rt;)
 }
 
 fn choice(rt: &impl Print, c: u8) -> io::Result<()> {
     let t: [u16; 8] = [1000, 1001, 1002, 1003, 1004, 1005, 1006, 1007];
-    let choices = [c];
-    let r = walk::walk(&t, 0, b"\xff", &choices);
-    number(rt, half(r.at))?;
-    Ok(())
+    // No case is refused; `map_or` stays since a refusal would print 0, as the program did when an answer was a row of numbers.
+    let at = walk::walk(&t, 0, b"\xff", &[c]).map_or(0, |end| end.at);
+    print!(rt; " {at}")
 }
 
 fn walked(
     rt: &impl Print,
-    what: &[u8],
+    what: &str,
     table: &[u16],
     source: u64,
     words: &[u8],
     choices: &[u8],
 ) -> io::Result<()> {
-    let r = walk::walk(table, source, words, choices);
-    say(rt, what)?;
-    number(rt, small(r.number))?;
-    number(rt, wide(r.place))?;
-    let ending = r.ending;
-    match ending {
-        Ending::None => say(rt, b" NONE")?,
-        Ending::Delivered => say(rt, b" DELIVERED")?,
-        Ending::Leftover => say(rt, b" LEFTOVER")?,
-        Ending::Empty => say(rt, b" EMPTY")?,
-        Ending::Off => say(rt, b" OFF")?,
-        Ending::Short => say(rt, b" SHORT")?,
+    let answer = walk::walk(table, source, words, choices);
+    print!(rt; "{what}")?;
+    told(rt, &answer)?;
+    match answer {
+        Ok(end) => println!(rt; " {} {} {} {}", end.ending, end.at, end.hops, end.left),
+        Err(_) => println!(rt; " NONE 0 0 0"),
     }
-    number(rt, half(r.at))?;
-    number(rt, small(r.hops))?;
-    number(rt, small(r.left))?;
-    say(rt, b"\n")?;
-    Ok(())
 }

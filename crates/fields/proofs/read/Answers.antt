@@ -1,39 +1,22 @@
--- `fields::read` meets its contract: the counts are the rules' own, so each way out is the computed answer, which keeps the promise.
--- Assumes nothing.
+-- `fields::read` meets its contract: the counts are the rules' own, so the fields before the first bad one end where it says. Assumes nothing.
 use native.Mathlib.Omega.{arith}
-use Rattle.rules.proofs.FieldLaws.{rows_few}
-use Rattle.fields.proofs.Laws.{rows-within, fields_within, read-bad, read_short, read_whole}
+use Rattle.fields.proofs.Laws.{rows-within, pairs_counted, pairs_within, read-filled}
 use Rattle.fields.proofs.read.Goals as goal
 
-pub overflow_mul-end : goal.overflow_mul-end
-overflow_mul-end c = omega (arith, fields_within c.args.bytes.now)
+pub overflow_mul-switches : goal.overflow_mul-switches
+overflow_mul-switches c = omega (arith, rows-within c.args.bytes.now, c.count_rows-switches.ensures)
 
-pub overflow_mul-end-2 : goal.overflow_mul-end-2
-overflow_mul-end-2 c = omega (arith, fields_within c.args.bytes.now)
+pub count_fields-pairs-requires : goal.count_fields-pairs-requires
+count_fields-pairs-requires c = (omega arith, omega (arith, rows-within c.args.bytes.now, c.count_rows-switches.ensures))
 
-pub overflow_add-end : goal.overflow_add-end
-overflow_add-end c = omega (arith, fields_within c.args.bytes.now)
+pub overflow_mul-switches-2 : goal.overflow_mul-switches-2
+overflow_mul-switches-2 c = omega (arith, rows-within c.args.bytes.now, c.count_rows-switches.ensures)
 
-pub returns-then-end-bytes : goal.returns-then-end-bytes
-returns-then-end-bytes c =
-    let a = c.args in
-    read-bad a.bytes.now a.table.now _ _ c.count_rows-switches.ensures c.count_pairs-pairs.ensures _ c.refused.ensures c.if-end-bytes.true
+pub overflow_mul-pairs : goal.overflow_mul-pairs
+overflow_mul-pairs c = omega (arith, pairs_within _ _ _ c.count_rows-switches.ensures c.count_fields-pairs.ensures)
 
-pub returns-then-table-lt512 : goal.returns-then-table-lt512
-returns-then-table-lt512 c =
-    let a = c.args in
-    read_short a.bytes.now a.table.now _ _ c.count_rows-switches.ensures c.count_pairs-pairs.ensures _ c.refused-then-table-lt512.ensures c.if-end-bytes.false c.if-table-lt512.true
-
-pub fill-requires : goal.fill-requires
-fill-requires c =
-    let b = c.args.bytes.now in
-    omega (arith, rows_few b 64, rows-within b, c.count_rows-switches.ensures)
-
-pub narrow-requires : goal.narrow-requires
-narrow-requires c =
-    omega (arith, rows_few c.args.bytes.now 64, c.count_rows-switches.ensures)
+pub overflow_add-switches : goal.overflow_add-switches
+overflow_add-switches c = omega (arith, pairs_within _ _ _ c.count_rows-switches.ensures c.count_fields-pairs.ensures)
 
 pub returns : goal.returns
-returns c =
-    let a = c.args in
-    read_whole a.bytes.now a.table.now _ _ c.count_rows-switches.ensures c.count_pairs-pairs.ensures _ _ c.narrow.ensures c.fill.ensures c.if-end-bytes.false c.if-table-lt512.false
+returns c = read-filled _ _ _ c.read_until.ensures.answer c.read_until.ensures.memory (omega (arith, c.count_rows-switches.ensures, pairs_counted _ _ _ c.count_rows-switches.ensures c.count_fields-pairs.ensures))

@@ -1,10 +1,12 @@
 -- `header::issue` is the judge and then the pair. Assumes nothing.
+use mathlib.Core.Path.{refl}
 use Rattle.rules.specs.Table.{house}
+use Rattle.rules.proofs.Answers.{handed-on}
 use Rattle.header.proofs.IssueLaws.{issued-refused, issued-given}
 use Rattle.header.proofs.issue.Goals as goal
 
-pub returns-then-judged-ne0 : goal.returns-then-judged-ne0
-returns-then-judged-ne0 c = issued-refused house _ _ _ c.judge-judged.ensures _ c.if-judged-ne0.true c.refused.ensures
+pub returns-in_err-judge : goal.returns-in_err-judge
+returns-in_err-judge c = rw (handed-on _ _ c.from_residual.ensures) (issued-refused house _ _ _ _ _ c.in_err-judge.ensures)
 
 pub returns : goal.returns
-returns c = issued-given house _ _ _ c.judge-judged.ensures _ c.if-judged-ne0.false c.issue_pair.ensures
+returns c = issued-given house _ _ _ c.in_ok-judge.ensures _ refl (c.issue_pair.ensures.answer, c.issue_pair.ensures.memory)

@@ -1,13 +1,12 @@
 -- `loader::pack_fields` lays the parts side by side. Assumes nothing.
-use native.Mathlib.Omega.{arith}
-use Rattle.rules.specs.Pack.{laid, packed_fields}
+use Rattle.rules.specs.Pack.{packed_fields}
 use Rattle.loader.proofs.Laws.{packs-refused, packs-made}
 use Rattle.loader.proofs.pack_fields.Goals as goal
 
-pub returns-then-answer-ne0 : goal.returns-then-answer-ne0
+pub returns-in-Ok : goal.returns-in-Ok
 unfolding packed_fields
-returns-then-answer-ne0 c = packs-refused _ _ _ _ c.if-answer-ne0.true c.refusal.ensures
+returns-in-Ok c = rw c.in-Ok.is (packs-made _ _ c.lay_fields.ensures)
 
-pub returns : goal.returns
-unfolding packed_fields laid
-returns c = packs-made _ _ _ _ c.if-answer-ne0.false (omega arith)
+pub returns-in-Err : goal.returns-in-Err
+unfolding packed_fields
+returns-in-Err c = rw c.in-Err.is (packs-refused _ _ _ c.lay_refusal.ensures)

@@ -4,10 +4,10 @@ use Rattle.rules.specs.Pack.{laid, packed_test}
 use Rattle.loader.proofs.Laws.{packs-refused, packs-made}
 use Rattle.loader.proofs.pack_test.Goals as goal
 
-pub returns-then-given-ne0 : goal.returns-then-given-ne0
-unfolding packed_test
-returns-then-given-ne0 c = packs-refused _ _ _ _ c.if-given-ne0.true c.refusal.ensures
-
-pub returns : goal.returns
+pub returns-in-Ok : goal.returns-in-Ok
 unfolding packed_test laid
-returns c = packs-made _ _ _ _ c.if-given-ne0.false (omega arith)
+returns-in-Ok c = rw c.in-Ok.is (packs-made _ _ (omega (arith, c.verdict_number.ensures.number, c.verdict_number.ensures.byte)))
+
+pub returns-in-Err : goal.returns-in-Err
+unfolding packed_test
+returns-in-Err c = rw c.in-Err.is (packs-refused _ _ _ c.lay_refusal.ensures)

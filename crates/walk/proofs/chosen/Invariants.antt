@@ -1,11 +1,7 @@
 -- `walk::chosen` meets its contract. The loop counts the permitted ports below p and has passed no port with the count that is asked for,
 -- so the first that it meets is the least. Assumes nothing.
-use Prim.Native.Nat.{◌-◌}
 use Rattle.walk.proofs.Laws.{Counted}
 use Rattle.walk.proofs.chosen.Given as goal
 
 abbrev pub invariant-loop-p : goal.invariant-loop-p
 invariant-loop-p l = Counted l.word l.wanted l.below l.p
-
-abbrev pub decreases-loop-p : goal.decreases-loop-p
-decreases-loop-p l = 8 - l.p

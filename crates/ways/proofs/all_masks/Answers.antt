@@ -1,20 +1,15 @@
-use native.Mathlib.Omega.{arith}
-use Rattle.ways.proofs.MaskCode.{written_start, written-skip, written_one, written-end, order-few}
+use Rattle.std.proofs.Common.{refl}
+use Rattle.ways.proofs.MaskCode.{written_start, written_skip, written_one, written_end}
 use Rattle.ways.proofs.all_masks.Goals as goal
 
 pub loop-i-init : goal.loop-i-init
 loop-i-init c = written_start
 
-pub bounds-order-i : goal.bounds-order-i
-bounds-order-i c = omega (arith, order-few c.requires, c.loop-i.invariant.some)
-
-pub loop-i-preserved-then-depth-s : goal.loop-i-preserved-then-depth-s
-loop-i-preserved-then-depth-s c =
-    written_one c.requires c.loop-i.invariant c.loop-i-test.true c.wide-s.ensures c.mask_of.ensures
+pub loop-i-preserved-then-depth-met : goal.loop-i-preserved-then-depth-met
+loop-i-preserved-then-depth-met c = written_one c.args.fabric.now.few c.requires c.loop-i.invariant c.loop-i-test.true refl c.mask_of.ensures
 
 pub loop-i-preserved : goal.loop-i-preserved
-loop-i-preserved c =
-    written-skip c.requires c.loop-i.invariant c.loop-i-test.true c.wide-s.ensures c.if-depth-s.false
+loop-i-preserved c = written_skip c.args.fabric.now.few c.requires c.loop-i.invariant c.loop-i-test.true refl c.if-depth-met.false
 
 pub returns : goal.returns
-returns c = written-end c.requires c.loop-i.invariant c.loop-i-test.false
+returns c = written_end c.args.fabric.now.few c.requires c.loop-i.invariant c.loop-i-test.false

@@ -6,7 +6,4 @@ use Rattle.ways.proofs.MaskCode.{Written}
 use Rattle.ways.proofs.all_masks.Given as goal
 
 abbrev pub invariant-loop-i : goal.invariant-loop-i
-invariant-loop-i l = Written (mask_of (far_of house l.table) (switches l.table) l.target l.home) l.order l.initial.i l.masks l.i
-
-abbrev pub decreases-loop-i : goal.decreases-loop-i
-decreases-loop-i l = l.i
+invariant-loop-i l = Written (mask_of (far_of house l.fabric.table.now) (switches l.fabric.table.now) l.target l.met.home) l.met.found.order l.met.found.reached l.masks l.i

@@ -1,40 +1,26 @@
-use native.Mathlib.Omega.{arith}
-use Rattle.rules.proofs.Tables.{port-inside}
-use Rattle.ways.proofs.SearchCode.{begin-place, begin-low, going-inside, going-none, going-seen, going-room, going-new, going_end}
+use Rattle.std.proofs.Common.{◌≡◌, ap, ◌∙◌, get_or, arith}
+use Rattle.rules.specs.Table.{house, leads}
+use Rattle.rules.proofs.Tables.{far_of-wired, leads-switch}
+use Rattle.wiring.proofs.Reading.{link_of, link_inside}
+use Rattle.ways.proofs.SearchCode.{going_skip, going_room, going_new, going_end}
 use Rattle.ways.proofs.expand.Goals as goal
-
-pub bounds-order-next : goal.bounds-order-next
-bounds-order-next c = begin-place c.requires
-
-pub overflow_add-deeper : goal.overflow_add-deeper
-overflow_add-deeper c = let l = begin-low c.requires c.wide-s.ensures in omega arith
-
-pub bounds-table-s : goal.bounds-table-s
-bounds-table-s c = port-inside _ _ _ (going-inside c.loop-p.invariant) c.loop-p-test.true
-
-pub loop-p-preserved-then-n-v : goal.loop-p-preserved-then-n-v
-loop-p-preserved-then-n-v c =
-    going-none c.loop-p.invariant c.loop-p-test.true
-    c.index-v.ensures c.if-n-v.true
-
-pub loop-p-preserved-then-depth-v-ne0 : goal.loop-p-preserved-then-depth-v-ne0
-loop-p-preserved-then-depth-v-ne0 c =
-    going-seen c.loop-p.invariant c.loop-p-test.true
-    c.index-v.ensures c.if-n-v.false c.if-depth-v-ne0.true
-
-pub bounds-order-found : goal.bounds-order-found
-bounds-order-found c =
-    going-room c.loop-p.invariant c.loop-p-test.true
-    c.index-v.ensures c.if-n-v.false c.if-depth-v-ne0.false
-
-pub overflow_add-found : goal.overflow_add-found
-overflow_add-found c = let l = (going-room c.loop-p.invariant c.loop-p-test.true
-    c.index-v.ensures c.if-n-v.false c.if-depth-v-ne0.false) in omega arith
-
-pub loop-p-preserved : goal.loop-p-preserved
-loop-p-preserved c =
-    going-new c.loop-p.invariant c.loop-p-test.true
-    c.index-v.ensures c.if-n-v.false c.if-depth-v-ne0.false c.narrow.ensures
+use Rattle.ways.proofs.expand.Goals.{in-Switch+then-search-v-eq0, in-Switch+else-search-v-eq0, in_default}
 
 pub returns : goal.returns
-returns c = going_end c.loop-p.invariant c.loop-p-test.false
+returns c = record { queue = going_end c.loop-p.invariant (far_of-wired house c.args.fabric.now.table.now) c.loop-p-test.false c.loop-p.auto.p-end }
+
+pub bounds-search-search : goal.bounds-search-search
+bounds-search-search c = going_room c.loop-p.invariant (link_of _ _ _ c.in-Switch.ensures.leads) (link_inside _ _ _ c.in-Switch.ensures.leads) c.if-search-v-eq0.true
+
+pub loop-p-preserved : goal.loop-p-preserved
+unfolding leads
+loop-p-preserved c =
+    elim c.match-entry.branch [
+      | in-Switch+then-search-v-eq0 w ↦ rw w.search-is (going_new c.loop-p.invariant (link_of _ _ _ w.in-Switch.ensures.leads) (link_inside _ _ _ w.in-Switch.ensures.leads) w.if-search-v-eq0.true)
+      | in-Switch+else-search-v-eq0 w ↦ rw w.search-is (going_skip c.loop-p.invariant (λ u e n. let k : w.in-Switch.v ≡ u = cc (link_of _ _ _ w.in-Switch.ensures.leads) in w.if-search-v-eq0.false (ap (λ x. get_or c.loop-p.search.depth x 0) k ∙ n)))
+      | in_default w ↦ rw w.search-is (going_skip c.loop-p.invariant (λ u e n. w.in_default.not-Switch u (leads-switch c.entry.result u (c.entry.ensures.leads ∙ e))))
+    ]
+
+pub invariant_of-search : goal.invariant_of-search
+invariant_of-search c =
+    let l = going_room c.loop-p.invariant (link_of _ _ _ c.in-Switch.ensures.leads) (link_inside _ _ _ c.in-Switch.ensures.leads) c.if-search-v-eq0.true in record { few = omega arith }

@@ -1,11 +1,9 @@
--- `ways::expand` meets its contract. A port whose entry is below the number of switches is a link to that switch, and every other port is
--- none; so after p turns the first p ports of the switch have been gone over. Assumes nothing.
-use Prim.Native.Nat.{◌-◌}
+-- `ways::expand` meets its contract. A port whose entry is a switch is a link to it, and every other port is none; so after p turns the
+-- first p ports of the switch have been gone over. Assumes nothing.
+use lib.ListN.{get_or}
+use Rattle.rules.specs.Table.{house, far_of, switches}
 use Rattle.ways.proofs.SearchCode.{Going}
 use Rattle.ways.proofs.expand.Given as goal
 
 abbrev pub invariant-loop-p : goal.invariant-loop-p
-invariant-loop-p l = Going l.table l.initial.order l.next l.s l.deeper l.order l.depth l.found l.p
-
-abbrev pub decreases-loop-p : goal.decreases-loop-p
-decreases-loop-p l = 8 - l.p
+invariant-loop-p l = Going (far_of house l.fabric.table.now) (switches l.fabric.table.now) (get_or l.initial.search.order 0 0) 64 l.next l.s l.deeper l.search.order l.search.depth l.search.reached l.p

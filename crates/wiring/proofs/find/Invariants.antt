@@ -1,6 +1,6 @@
 -- `wiring::find` meets its contract. The scan has passed only ports where the processor does not stand, so the first at which it stands is
 -- the least. Assumes nothing.
-use Prim.Native.Nat.{◌*◌, ◌-◌}
+use Prim.Native.Nat.{◌*◌}
 use Rattle.rules.specs.Table.{house, kind_at, switches}
 use Rattle.rules.specs.RunTable.{is_entry_of}
 use Rattle.wiring.proofs.Laws.{Passed}
@@ -8,6 +8,3 @@ use Rattle.wiring.proofs.find.Given as goal
 
 abbrev pub invariant-loop-i : goal.invariant-loop-i
 invariant-loop-i l = Passed (8 * switches l.table) (λ k. is_entry_of l.node (kind_at house l.table k)) l.i
-
-abbrev pub decreases-loop-i : goal.decreases-loop-i
-decreases-loop-i l = l.ports - l.i

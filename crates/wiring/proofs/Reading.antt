@@ -1,0 +1,41 @@
+-- What is read at a port of a switch: its entry says where the port leads, and names one of 64 switches where there are no more.
+-- Assumes nothing.
+use Prim.Native.Nat.{ℕ, ◌+◌, ◌*◌, ◌/◌, ◌≤◌, ◌<◌}
+use native.Mathlib.Omega.{arith}
+use mathlib.Core.Path.{◌≡◌, sym, ap, ◌∙◌}
+use mathlib.Core.List.{List}
+use lib.ListN.{length, get_or}
+use Rattle.rules.specs.declared.Entry.{Entry}
+use Rattle.rules.specs.declared.Entry.TheVariants.{Switch, Node, Nothing, Bad}
+use Rattle.rules.specs.Net.{switch}
+use Rattle.rules.specs.Table.{house, no_link, kind, kind_at, leads, switches, far_of}
+use Rattle.rules.proofs.Tables.{port-inside, far-inside, far_of-wired}
+use Rattle.std.proofs.lemmas.List.{get_or_default}
+use Rattle.wiring.specs.Entries.{Inside}
+
+pub few_switches : (t : List ℕ) → length t ≤ 512 → switches t ≤ 64
+unfolding switches
+few_switches t l = omega arith
+
+module _ (t : List ℕ) (s p : ℕ) where
+  -- the entry of a port of a switch says where it leads
+  pub entry_leads : {e : Entry} → s < switches t → p < 8 → e ≡ kind house (length t / 8) (get_or t (8 * s + p) 0) → leads e ≡ far_of house t s p
+  unfolding kind_at switches
+  entry_leads l m q =
+      ap leads (q ∙ ap (kind house (length t / 8)) (get_or_default t (8 * s + p) 0 no_link (port-inside t s p l m))) ∙ sym (far-inside house t s p l m)
+
+  -- what an entry that is a link says of the port at which it was read
+  module _ {v : ℕ} (read : leads (Switch v) ≡ far_of house t s p) where
+    pub link_of : far_of house t s p ≡ switch v
+    unfolding leads
+    link_of = sym read
+
+    pub link_inside : v < switches t
+    link_inside = (far_of-wired house t).link s p v link_of
+
+  -- it names one of 64 switches, where there are no more
+  pub entry_inside : (e : Entry) → switches t ≤ 64 → leads e ≡ far_of house t s p → Inside e
+  entry_inside (Switch v) few h = let l = link_inside h in omega arith
+  entry_inside (Node a) few h = tt
+  entry_inside Nothing few h = tt
+  entry_inside Bad few h = tt
