@@ -11,3 +11,11 @@ fn main(rt: HostRuntime) -> io::Result<()> {
     on_ways::run(&rt)?;
     on_header::run(&rt)
 }
+
+/// A space and two hexadecimal digits for each byte.
+fn bytes(rt: &impl Print, bytes: &[u8]) -> io::Result<()> {
+    for byte in bytes {
+        print!(rt; " {byte:02x}")?;
+    }
+    Ok(())
+}

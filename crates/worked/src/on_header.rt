@@ -1,8 +1,10 @@
 //! The worked cases of header issue and the header test, a few in each function: what a check takes grows faster than a function's length.
 ghost use Rattle.std.specs.Prelude.{◌<◌};
 
+use crate::bytes;
 use networks::{A, B, C, D};
-use show::{answer, bytes, told};
+use rules::{IssuedHeader, Refusal};
+use show::told;
 use std::io;
 
 pub(crate) fn run(rt: &impl Print) -> io::Result<()> {
@@ -199,13 +201,23 @@ fn issued(
 ) -> io::Result<()> {
     let mut out = [7u8; 20];
     print!(rt; "{what}")?;
-    answer(
+    told_header(
         rt,
         header::issue(table, source, target, &mut out[..lent.min(20)]),
     )?;
     print!(rt; " :")?;
     bytes(rt, &out[..10])?;
     println!(rt;)
+}
+
+/// Number, place, distance, count and tries; with a refusal the last three are 0.
+fn told_header(rt: &impl Print, answer: Result<IssuedHeader, Refusal>) -> io::Result<()> {
+    let (number, place) = told(&answer);
+    print!(rt; " {number} {place}")?;
+    match answer {
+        Ok(header) => print!(rt; " {} {} {}", header.distance, header.count, header.tries),
+        Err(_) => print!(rt; " 0 0 0"),
+    }
 }
 
 fn tested(
@@ -217,8 +229,8 @@ fn tested(
     words: &[u8],
 ) -> io::Result<()> {
     let passes = header::test(table, source, target, words);
-    print!(rt; "{what}")?;
-    told(rt, &passes)?;
+    let (number, place) = told(&passes);
+    print!(rt; "{what} {number} {place}")?;
     match passes {
         Ok(true) => println!(rt; " 0 0 0 yes"),
         Ok(false) => println!(rt; " 0 0 0 no"),

@@ -1,7 +1,9 @@
 //! The worked cases of judge, distance and mask issue, a few in each function. A case is its parameters, as in on_header: a struct of them would
 //! be named at every line.
+use crate::bytes;
 use networks::{A, B, C};
-use show::{bytes, distance, told};
+use rules::Refusal;
+use show::told;
 use std::io;
 
 pub(crate) fn run(rt: &impl Print) -> io::Result<()> {
@@ -133,9 +135,8 @@ fn all_processors() -> [u16; 512] {
 }
 
 fn judged(rt: &impl Print, what: &str, table: &[u16]) -> io::Result<()> {
-    print!(rt; "{what}")?;
-    told(rt, &wiring::judge(table))?;
-    println!(rt;)
+    let (number, place) = told(&wiring::judge(table));
+    println!(rt; "{what} {number} {place}")
 }
 
 fn measured(
@@ -146,7 +147,7 @@ fn measured(
     target: u64,
 ) -> io::Result<()> {
     print!(rt; "{what}")?;
-    distance(rt, ways::distance(table, source, target))?;
+    told_distance(rt, ways::distance(table, source, target))?;
     println!(rt;)
 }
 
@@ -161,11 +162,17 @@ fn masked(
 ) -> io::Result<()> {
     let mut out = [7u8; 9];
     print!(rt; "{what}")?;
-    distance(
+    told_distance(
         rt,
         ways::masks(table, source, target, &mut out[..lent.min(9)]),
     )?;
     print!(rt; " :")?;
     bytes(rt, &out)?;
     println!(rt;)
+}
+
+/// Number, place, distance, count and tries; the last two are 0, and with a refusal the distance too.
+fn told_distance(rt: &impl Print, answer: Result<u8, Refusal>) -> io::Result<()> {
+    let (number, place) = told(&answer);
+    print!(rt; " {number} {place} {} 0 0", answer.unwrap_or(0))
 }

@@ -150,7 +150,8 @@ fn read(rt: &impl Print, what: &str, fields: &[u8], lent: usize) -> io::Result<(
 
 /// Number, place, switches and the offset of the first pair.
 fn read_of(rt: &impl Print, answer: Result<ReadFields, Refusal>) -> io::Result<()> {
-    told(rt, &answer)?;
+    let (number, place) = told(&answer);
+    print!(rt; " {number} {place}")?;
     match answer {
         Ok(read) => print!(rt; " {} {}", read.switches, read.pairs),
         Err(_) => print!(rt; " 0 0"),

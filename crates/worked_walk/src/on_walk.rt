@@ -168,8 +168,8 @@ fn walked(
     choices: &[u8],
 ) -> io::Result<()> {
     let answer = walk::walk(table, source, words, choices);
-    print!(rt; "{what}")?;
-    told(rt, &answer)?;
+    let (number, place) = told(&answer);
+    print!(rt; "{what} {number} {place}")?;
     match answer {
         Ok(end) => println!(rt; " {} {} {} {}", end.ending, end.at, end.hops, end.left),
         Err(_) => println!(rt; " NONE 0 0 0"),
