@@ -2,13 +2,16 @@
 -- Assumes nothing.
 use Prim.Native.Nat.{ℕ, ◌+◌, ◌*◌, ◌/◌, ◌≤◌, ◌<◌}
 use native.Mathlib.Omega.{arith}
-use mathlib.Core.Path.{◌≡◌, sym, ap, ◌∙◌}
+use mathlib.Core.Path.{◌≡◌, refl, sym, ap, ◌∙◌}
+use mathlib.Core.Bool.{Bool, true, false, cond, ◌&&◌}
 use mathlib.Core.List.{List}
+use lib.Dec.{ltb, ltb→lt}
 use lib.ListN.{length, get_or}
 use Rattle.rules.specs.declared.Entry.{Entry}
 use Rattle.rules.specs.declared.Entry.TheVariants.{Switch, Node, Nothing, Bad}
-use Rattle.rules.specs.Net.{switch}
+use Rattle.rules.specs.Net.{switch, nothing}
 use Rattle.rules.specs.Table.{house, no_link, kind, kind_at, leads, switches, far_of}
+use Rattle.rules.proofs.SetLaws.{T_and, T_true}
 use Rattle.rules.proofs.Tables.{port-inside, far-inside, far_of-wired}
 use Rattle.std.proofs.lemmas.List.{get_or_default}
 use Rattle.wiring.specs.Entries.{Inside}
@@ -23,6 +26,15 @@ module _ (t : List ℕ) (s p : ℕ) where
   unfolding kind_at switches
   entry_leads l m q =
       ap leads (q ∙ ap (kind house (length t / 8)) (get_or_default t (8 * s + p) 0 no_link (port-inside t s p l m))) ∙ sym (far-inside house t s p l m)
+
+  -- a port of a switch that there is not leads nowhere
+  pub entry_none : ¬ ((s < switches t) × (p < 8)) → leads Nothing ≡ far_of house t s p
+  unfolding far_of leads
+  entry_none n = at (ltb s (switches t) && ltb p 8) refl
+    where
+      at : (b : Bool) → (ltb s (switches t) && ltb p 8) ≡ b → nothing ≡ cond b (leads (kind_at house t (8 * s + p))) nothing
+      at true e = let i = T_and (ltb s (switches t)) (ltb p 8) (T_true e) in absurd (n (ltb→lt s (switches t) i.0, ltb→lt p 8 i.1))
+      at false e = refl
 
   -- what an entry that is a link says of the port at which it was read
   module _ {v : ℕ} (read : leads (Switch v) ≡ far_of house t s p) where

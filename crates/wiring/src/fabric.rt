@@ -17,14 +17,17 @@ pub struct Fabric<'a> {
 }
 
 impl Fabric<'_> {
-    /// What port `p` of switch `s` leads to. A switch that the entry names is below 64.
+    /// What port `p` of switch `s` leads to; where there is no such switch or port, nothing. A switch that the entry names is below 64.
     #[tactic(auto, using(crate::proofs::Reading::entry_leads), unfolding(rules::specs::Table::switches))]
     pub fn entry(&self, s: usize, p: usize) -> Entry
-        requires switch { s < switches self.now.table.now }
-        requires port { p < 8 }
         ensures leads { leads result ≡ far_of house self.now.table.now s p }
         ensures inside { Inside result }
     {
-        entry(self.table[8 * s + p], self.table.len() / 8)
+        let n = self.table.len() / 8;
+        if s < n && p < 8 {
+            entry(self.table[8 * s + p], n)
+        } else {
+            Entry::Nothing
+        }
     }
 }

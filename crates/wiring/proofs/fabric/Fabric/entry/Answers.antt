@@ -1,6 +1,20 @@
--- `Fabric::entry` meets its contract: where the entry leads, so does the port, and a link's switch is one of the table. Assumes nothing.
-use Rattle.wiring.proofs.Reading.{entry_leads, entry_inside}
+-- `Fabric::entry` meets its contract: where the entry leads, so does the port, and a link's switch is one of the table; a port that there is not
+-- leads nowhere. Assumes nothing.
+use native.Mathlib.Omega.{arith}
+use Rattle.rules.specs.Table.{switches}
+use Rattle.wiring.proofs.Reading.{entry_leads, entry_none, entry_inside}
 use Rattle.wiring.proofs.fabric.Fabric.entry.Goals as goal
+use Rattle.wiring.proofs.fabric.Fabric.entry.Goals.{else-s-n-via-then-s-n+else-p-lt8, else-s-n-via-else-s-n}
 
-pub returns-clause-inside : goal.returns-clause-inside
-returns-clause-inside c = entry_inside _ _ _ c.entry.result c.args.self.now.few (entry_leads _ _ _ c.requires.switch c.requires.port c.entry.ensures)
+pub returns-then-p-lt8-clause-inside : goal.returns-then-p-lt8-clause-inside
+unfolding switches
+returns-then-p-lt8-clause-inside c =
+    entry_inside _ _ _ c.entry.result c.args.self.now.few (entry_leads _ _ _ c.if-s-n.true c.if-p-lt8.true c.entry.ensures)
+
+pub returns-else-s-n-clause-leads : goal.returns-else-s-n-clause-leads
+unfolding switches
+returns-else-s-n-clause-leads c =
+    entry_none _ _ _ (λ i. elim c.else-s-n.branch [
+      | else-s-n-via-then-s-n+else-p-lt8 w ↦ let k = i.1 in let l = w.if-p-lt8.false in omega arith
+      | else-s-n-via-else-s-n w ↦ let k = i.0 in let l = w.if-s-n.false in omega arith
+    ])
