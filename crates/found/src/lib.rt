@@ -68,14 +68,15 @@ fn put(mut words: [u8; 8], at: usize, w: u8) -> [u8; 8]
     words
 }
 
-/// What all choices of a set gave, or None where the tries have passed the budget.
-pub fn total(best: Found, tries: u32, budget: u32) -> Option<Found>
+/// What all choices of a set gave: an Err where the tries have passed the budget, which says too what was found until then.
+pub fn total(best: Found, tries: u32, budget: u32) -> Result<Found, Found>
     ensures { result ≡ total_found best tries budget }
 {
+    let all = Found { tries, ..best };
     if tries > budget {
-        return None;
+        return Err(all);
     }
-    Some(Found { tries, ..best })
+    Ok(all)
 }
 
 /// What is kept of the set, or None where it has to be searched.

@@ -28,7 +28,7 @@ linked-in m u t = (
 
 -- n is the set of the switches to which the members that are not left link by port p
 pub record Follows (far : ℕ → ℕ → Far) (p m rest n : ℕ) : Type 0 where
-  pub out : (t : ℕ) → T (has t n) → (u : ℕ) × T (has u m) × (far u p ≡ switch t)
+  pub out : (t : ℕ) → T (has t n) → (u : ℕ) × T (has u m) × (T (has u rest) → ⊥) × (far u p ≡ switch t)
   pub back : (t u : ℕ) → T (has u m) → (T (has u rest) → ⊥) → far u p ≡ switch t → T (has t n)
 
 module _ (far : ℕ → ℕ → Far) (p m : ℕ) where
@@ -39,10 +39,14 @@ module _ (far : ℕ → ℕ → Far) (p m : ℕ) where
   }
 
   module _ {rest u left n : ℕ} (l : Left m rest) (h : Leaves rest u left) (f : Follows far p m rest n) where
+    -- what was met before is not left now either
+    met-before : (t : ℕ) → T (has t n) → (v : ℕ) × T (has v m) × (T (has v left) → ⊥) × (far v p ≡ switch t)
+    met-before t k = let o = f.out t k in (o.0, o.1, λ k. o.2 ((h.others o.0).0 k).0, o.3)
+
     -- the member met links to v
     follows-link : (v : ℕ) → far u p ≡ switch v → Follows far p m left (bit_or n (2 ^ v))
     follows-link v e = record {
-      out = λ t k. ⊎_elim (f.out t) (λ q. (u, l.inside u h.here, e ∙ ap switch (sym q))) ((linked-in n v t).0 k);
+      out = λ t k. ⊎_elim (met-before t) (λ q. (u, l.inside u h.here, λ k. ((h.others u).0 k).1 refl, e ∙ ap switch (sym q))) ((linked-in n v t).0 k);
       back = λ t j k d i. (linked-in n v t).1
           (⊎_elim (λ b. inl (f.back t j k b i)) (λ q. let i = subst (λ (x : ℕ). far x p ≡ switch t) q i in inr (cc)) (met h j d));
     }
@@ -50,14 +54,14 @@ module _ (far : ℕ → ℕ → Far) (p m : ℕ) where
     -- the member met has no link there
     follows-none : ((t : ℕ) → far u p ≡ switch t → ⊥) → Follows far p m left n
     follows-none e = record {
-      out = f.out;
+      out = met-before;
       back = λ t j k d i. ⊎_elim (λ b. f.back t j k b i) (λ q. absurd (e t (subst (λ (x : ℕ). far x p ≡ switch t) q i))) (met h j d);
     }
 
   pub follows-all : {size rest n : ℕ} → Wired far size → rest ≡ 0 → Follows far p m rest n → n ≡ reach far size m (2 ^ p)
   follows-all {size} {rest} {n} wired z f =
       same-members n (reach far size m (2 ^ p))
-      (λ t h. let o = f.out t h in (in-single far size wired m p t).1 (o.0, o.1, o.2))
+      (λ t h. let o = f.out t h in (in-single far size wired m p t).1 (o.0, o.1, o.3))
       (λ t h. let o = (in-single far size wired m p t).0 h in f.back t o.0 o.1 (λ k. subst T (has-nothing o.0) (subst (λ (x : ℕ). T (has o.0 x)) z k)) o.2)
 
 -- ---- e is the entry at port p of switch s
@@ -65,7 +69,7 @@ module _ (far : ℕ → ℕ → Far) (p m : ℕ) where
 module _ (t : List ℕ) (s p : ℕ) {e : Entry} (read : leads e ≡ far_of house t s p) where
   -- a link, whose number the code has as v
   module _ (small : Inside e) {u v : ℕ} (told : e ≡ Switch u) (is : v ≡ u) where
-    link-small : v < 64
+    pub link-small : v < 64
     link-small = let l : u < 64 = subst Inside told small in omega arith
 
     pub link-followed : {m rest left n after : ℕ} → Left m rest → Leaves rest s left → Follows (far_of house t) p m rest n → after ≡ bit_or n (1 * 2 ^ v % 2 ^ 64)

@@ -25,6 +25,7 @@ module _ (m : ℕ) (wide : m < 2 ^ 64) where
   unfolding has
   leaves_lowest some = record {
     here = eq-T (m / 2 ^ s % 2) 1 low.1;
+    lowest = λ j l h. let z = low.2 j l in let o = eqb→eq (m / 2 ^ j % 2) 1 h in omega arith;
     others = λ j. (
       λ h. let i = ltj j h in (
         eq-T (m / 2 ^ j % 2) 1 (sym (bit_at_clear_other w64 m s low.0 j i (apart j h)) ∙ eqb→eq (n / 2 ^ j % 2) 1 h),

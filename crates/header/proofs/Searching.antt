@@ -4,6 +4,7 @@ use Prim.Native.Nat.{ℕ, suc, ◌+◌, ◌-◌, ◌^◌, ◌≤◌, ◌<◌}
 use native.Mathlib.Omega.{arith}
 use mathlib.Core.Path.{◌≡◌, sym, ap, ◌∙◌, subst}
 use Rattle.std.specs.Prelude.{Option, Some, None}
+use Rattle.std.specs.Result.{result_ok}
 use mathlib.Core.List.{List}
 use lib.ListN.{get_or}
 use lib.Dec.{T}
@@ -96,7 +97,7 @@ module _ (t ms : List ℕ) where
           (let d = known.deep in let o = known.searches.some in omega arith)
 
       -- at the end the tries have not passed the budget, so the search is not over it
-      pub ended : (h : Found) (k w : ℕ) → Search h k w → 256 ≤ w → Finds m left budget (total_found h k budget)
+      pub ended : (h : Found) (k w : ℕ) → Search h k w → 256 ≤ w → Finds m left budget (result_ok (total_found h k budget))
       ended h k w u l =
           let e = le-leb k budget u.in-budget in
           rw e (end-at ports (after far (switches t) mask m left) (cost far (switches t) mask m left) budget h k w u l ∙ is_whole)

@@ -5,7 +5,7 @@
 --   found_of .. m n k               the widest header of n words from the set m, None where it takes more than k tries: the twin `best`, and 01's `tries`
 --   Recalls .. n k                 what is kept of a search for n words, if anything is: what a search from its set finds
 --   next_choice w c                 the least choice among c that is not below w, or 256
---   Leaves m s n                   s is a switch of the set m, and n has the others
+--   Leaves m s n                   s is the lowest switch of the set m, and n has the others
 --   singles, joined                the sets that the ports of a word reach alone; those of a word's ports together
 --   Alike a b                      two sets that the search does not tell apart
 --   Grouped m c sets               for each port a set like the one that it reaches alone from m
@@ -54,6 +54,7 @@ Recalls far size mask n k = IfSome k (λ k. k.found ≡ found (best far size mas
 
 pub record Leaves (m s n : ℕ) : Type 0 where
   pub here : T (has s m)
+  pub lowest : (j : ℕ) → j < s → T (has j m) → ⊥
   pub others : (j : ℕ) → T (has j n) ↔ (T (has j m) × (j ≡ s → ⊥))
 
 unfoldable pub next_choice : ℕ → ℕ → ℕ

@@ -160,7 +160,7 @@ impl Net<'_, '_> {
             tries += 1 + rest.tries;
             best = wider(best, rest, word, left);
         }
-        total(best, tries, budget)
+        total(best, tries, budget).ok()
     }
 
     /// The ports common to the masks of all switches of the set.

@@ -5,7 +5,7 @@ use native.Mathlib.Omega.{arith}
 use mathlib.Core.Path.{◌≡◌, refl, sym, ap, ◌∙◌, subst}
 use mathlib.Core.List.{List, [], ◌∷◌}
 use lib.ListN.{length, take}
-use borrow.Author.Tests.{ne_eqb, lt-ltb, le-ltb}
+use borrow.Author.Tests.{eq-eqb, ne_eqb, lt-ltb, le-ltb}
 use Rattle.std.specs.Prelude.{Ok, Err}
 use Rattle.rules.specs.declared.Refusal.{Refusal}
 use Rattle.rules.specs.declared.ReadFields.{ReadFields}
@@ -22,13 +22,23 @@ use Rattle.fields.specs.Rows.{rows_of, rows_memory}
 use Rattle.rules.proofs.FieldLaws.{rows_few}
 use Rattle.fields.proofs.ReadLaws.{rows-refused, rows-read, table_taken}
 
-pub packs-refused : (n : ℕ) (parts : List (ℕ × ℕ)) (e : Refusal) → n ≡ laid ((8, number e) ∷ (56, place e) ∷ []) → n ≡ packs (number e) (place e) parts
-unfolding packs
-packs-refused n parts e h = let l = number-some e in simp (ne_eqb (number e) 0 (λ z. omega arith)) h
+module _ (k q n : ℕ) (parts : List (ℕ × ℕ)) where
+  pub packs-refused : ¬ (k ≡ 0) → n ≡ laid ((8, k) ∷ (56, q) ∷ []) → n ≡ packs k q parts
+  unfolding packs
+  packs-refused h e = simp (ne_eqb k 0 h) e
 
-pub packs-made : (n : ℕ) (parts : List (ℕ × ℕ)) → n ≡ laid ((8, 0) ∷ parts) → n ≡ packs 0 0 parts
-unfolding packs
-packs-made n parts e = e
+  pub packs-made : k ≡ 0 → n ≡ 256 * laid parts → n ≡ packs k q parts
+  unfolding packs laid
+  packs-made h e = simp (eq-eqb k 0 h) (omega arith)
+
+-- the same of a refusal, and of values behind the number 0
+module _ (n : ℕ) (parts : List (ℕ × ℕ)) where
+  pub packs-refusal : (e : Refusal) → n ≡ laid ((8, number e) ∷ (56, place e) ∷ []) → n ≡ packs (number e) (place e) parts
+  packs-refusal e h = let l = number-some e in packs-refused (number e) (place e) n parts (λ z. omega arith) h
+
+  pub packs-values : n ≡ laid ((8, 0) ∷ parts) → n ≡ packs 0 0 parts
+  unfolding packs
+  packs-values e = e
 
 -- ---- header issue over fields: what `read_rows` gave, and left in the table t
 
@@ -66,7 +76,7 @@ module _ (b lent : List ℕ) (room : 512 ≤ length lent) (a d : ℕ) (out : Lis
 
 module _ (b lent : List ℕ) (room : 512 ≤ length lent) (a d : ℕ) (out : List ℕ) (r : FieldAnswer) (t : List ℕ) (read : (r ≡ rows_of house b lent) × (t ≡ rows_memory house b lent)) where
   pub header_refused : (n : ℕ) → ¬ (r.number ≡ 0) → n ≡ laid ((8, r.number) ∷ (56, r.place) ∷ []) → Packs packed (λ x. Loaded house b a d out x out) n
-  unfolding packed packs
+  unfolding packed
   header_refused n h e =
       let k = rows-refused b lent room r t read.0 read.1 h in
       let c = call-short b lent room a d out t k.before in
@@ -75,7 +85,7 @@ module _ (b lent : List ℕ) (room : 512 ≤ length lent) (a d : ℕ) (out : Lis
       record {
         answer = record { number = r.number; place = r.place; distance = 0; count = 0; tries = 0 };
         so = loaded-bad house b a d out _ (λ z. h (f ∙ z)) f g (record { distance = refl; count = refl; tries = refl });
-        is = simp (ne_eqb r.number 0 h) e;
+        is = packs-refused r.number r.place n ((8, 0) ∷ (24, 0) ∷ (24, 0) ∷ []) h e;
       }
 
   pub header-issued : (k m n : ℕ) (x : Answer) (o : List ℕ) → r.number ≡ 0 → k ≡ r.switches → m ≡ 8 * k → Issued house (take m t) a d out x o → n ≡ packed x → Packs packed (λ x. Loaded house b a d out x o) n

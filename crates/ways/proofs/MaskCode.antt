@@ -15,16 +15,31 @@ use lib.Seq.{get_or-set_same, get_or-set_other, ext_get_or}
 use lib.Pow.{shl_exact}
 use Rattle.std.specs.Int.Bits.{bit_or, or_shifted_r}
 use Rattle.rules.specs.Sets.{set_of, tabulate}
-use Rattle.rules.specs.Table.{house, switches, far_of}
+use Rattle.rules.specs.declared.Entry.{Entry}
+use Rattle.rules.specs.declared.Entry.TheVariants.{Node}
+use Rattle.rules.specs.Table.{house, leads, switches, far_of}
 use Rattle.rules.specs.Run.{mask_of}
 use Rattle.rules.specs.RunPair.{mask}
 use Rattle.rules.proofs.SetLaws.{set_of-lt}
 use Rattle.rules.proofs.Tables.{far_of-wired}
 use Rattle.rules.proofs.Lists.{length-tabulate, get_d_tabulate}
-use Rattle.ways.specs.Onward.{onward_of}
+use Rattle.ways.specs.Onward.{ahead, onward_of}
 use Rattle.ways.specs.Inner.{Ready}
 use Rattle.ways.proofs.QueueLaws.{zeros}
 use Rattle.ways.proofs.Forward.{mask-none, onward-step}
+
+-- ---- one entry
+
+-- a processor that stands there: none of them counts where the switch is not the last, and else the target alone
+module _ (d : ℕ) (last : Bool) (depth masks : List ℕ) (n : ℕ) where
+  module _ {e : Entry} where
+    pub ahead-early : {a : ℕ} → e ≡ Node a → last ≡ false → false ≡ ahead d last depth masks n (leads e)
+    unfolding ahead leads
+    ahead-early q h = rw (q, h)
+
+    pub ahead_own : {a b : ℕ} → e ≡ Node a → b ≡ a → last ≡ true → eqb b d ≡ ahead d last depth masks n (leads e)
+    unfolding ahead leads
+    ahead_own q k h = rw (q, k, h)
 
 -- ---- one switch
 

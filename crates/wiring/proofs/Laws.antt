@@ -25,25 +25,25 @@ use Rattle.rules.proofs.Homes.{is-entry, same-node, node-same}
 -- ---- an entry by its range
 
 module _ (n e : ℕ) where
-  pub kind-link : e < n → Switch e ≡ kind house n e
+  pub kind_link : e < n → Switch e ≡ kind house n e
   unfolding kind
-  kind-link l = simp (lt-ltb e n l)
+  kind_link l = simp (lt-ltb e n l)
 
-  pub kind-processor : n ≤ e → 1000 ≤ e → e < 1512 → Node (e - 1000) ≡ kind house n e
+  pub kind_processor : n ≤ e → 1000 ≤ e → e < 1512 → Node (e - 1000) ≡ kind house n e
   unfolding kind
-  kind-processor l low high = simp (le-ltb e n l, le-leb 1000 e low, lt-ltb e 1512 high)
+  kind_processor l low high = simp (le-ltb e n l, le-leb 1000 e low, lt-ltb e 1512 high)
 
-  pub kind-none : n ≤ e → e ≡ 65535 → Nothing ≡ kind house n e
+  pub kind_none : n ≤ e → e ≡ 65535 → Nothing ≡ kind house n e
   unfolding kind
-  kind-none l q = simp (le-ltb e n l, le-leb 1000 e (omega arith), le-ltb e 1512 (omega arith), eq-eqb e 65535 q)
+  kind_none l q = simp (le-ltb e n l, le-leb 1000 e (omega arith), le-ltb e 1512 (omega arith), eq-eqb e 65535 q)
 
-  pub kind-low : n ≤ e → e < 1000 → Bad ≡ kind house n e
+  pub kind_low : n ≤ e → e < 1000 → Bad ≡ kind house n e
   unfolding kind
-  kind-low l low = simp (le-ltb e n l, lt-leb 1000 e low, ne_eqb e 65535 (λ q. omega arith))
+  kind_low l low = simp (le-ltb e n l, lt-leb 1000 e low, ne_eqb e 65535 (λ q. omega arith))
 
-  pub kind-high : n ≤ e → 1512 ≤ e → (e ≡ 65535 → ⊥) → Bad ≡ kind house n e
+  pub kind_high : n ≤ e → 1512 ≤ e → (e ≡ 65535 → ⊥) → Bad ≡ kind house n e
   unfolding kind
-  kind-high l high q = simp (le-ltb e n l, le-leb 1000 e (omega arith), le-ltb e 1512 high, ne_eqb e 65535 q)
+  kind_high l high q = simp (le-ltb e n l, le-leb 1000 e (omega arith), le-ltb e 1512 high, ne_eqb e 65535 q)
 
 -- ---- a scan for the least hit
 

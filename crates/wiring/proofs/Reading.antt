@@ -1,10 +1,12 @@
--- What is read at a port of a switch: its entry says where the port leads, and names one of 64 switches where there are no more.
+-- What is read at a port of a switch: the entry that stands there, which says where the port leads, and names one of 64 switches where there are
+-- no more.
 -- Assumes nothing.
 use Prim.Native.Nat.{ℕ, ◌+◌, ◌*◌, ◌/◌, ◌≤◌, ◌<◌}
 use native.Mathlib.Omega.{arith}
 use mathlib.Core.Path.{◌≡◌, refl, sym, ap, ◌∙◌}
 use mathlib.Core.Bool.{Bool, true, false, cond, ◌&&◌}
 use mathlib.Core.List.{List}
+use borrow.Author.Tests.{lt-ltb}
 use lib.Dec.{ltb, ltb→lt}
 use lib.ListN.{length, get_or}
 use Rattle.rules.specs.declared.Entry.{Entry}
@@ -14,13 +16,37 @@ use Rattle.rules.specs.Table.{house, no_link, kind, kind_at, leads, switches, fa
 use Rattle.rules.proofs.SetLaws.{T_and, T_true}
 use Rattle.rules.proofs.Tables.{port-inside, far-inside, far_of-wired}
 use Rattle.std.proofs.lemmas.List.{get_or_default}
-use Rattle.wiring.specs.Entries.{Inside}
+use Rattle.wiring.specs.Entries.{Inside, entry_at}
 
 pub few_switches : (t : List ℕ) → length t ≤ 512 → switches t ≤ 64
 unfolding switches
 few_switches t l = omega arith
 
 module _ (t : List ℕ) (s p : ℕ) where
+  -- what is read at a port of a switch is what stands there
+  pub entry_is : {e : Entry} → s < switches t → p < 8 → e ≡ kind house (length t / 8) (get_or t (8 * s + p) 0) → e ≡ entry_at t s p
+  unfolding entry_at kind_at switches
+  entry_is l m q =
+      q ∙ ap (kind house (length t / 8)) (get_or_default t (8 * s + p) 0 no_link (port-inside t s p l m)) ∙ simp (lt-ltb s (length t / 8) l, lt-ltb p 8 m)
+
+  -- and nothing stands where there is no such port
+  pub entry_missing : ¬ ((s < switches t) × (p < 8)) → Nothing ≡ entry_at t s p
+  unfolding entry_at
+  entry_missing n = at (ltb s (switches t) && ltb p 8) refl
+    where
+      at : (b : Bool) → (ltb s (switches t) && ltb p 8) ≡ b → Nothing ≡ cond b (kind_at house t (8 * s + p)) Nothing
+      at true e = let i = T_and (ltb s (switches t)) (ltb p 8) (T_true e) in absurd (n (ltb→lt s (switches t) i.0, ltb→lt p 8 i.1))
+      at false e = refl
+
+  -- it leads where the port does
+  pub entry_at-leads : leads (entry_at t s p) ≡ far_of house t s p
+  unfolding entry_at far_of leads
+  entry_at-leads = at (ltb s (switches t) && ltb p 8)
+    where
+      at : (b : Bool) → leads (cond b (kind_at house t (8 * s + p)) Nothing) ≡ cond b (leads (kind_at house t (8 * s + p))) nothing
+      at true = refl
+      at false = refl
+
   -- the entry of a port of a switch says where it leads
   pub entry_leads : {e : Entry} → s < switches t → p < 8 → e ≡ kind house (length t / 8) (get_or t (8 * s + p) 0) → leads e ≡ far_of house t s p
   unfolding kind_at switches

@@ -2,7 +2,7 @@
 
 ghost use Rattle.std.specs.Prelude.{◌≡◌, ◌≤◌, ◌<◌};
 ghost use Rattle.rules.specs.Table.{house, leads, far_of, switches};
-ghost use Rattle.wiring.specs.Entries.{Inside};
+ghost use Rattle.wiring.specs.Entries.{Inside, entry_at};
 
 use crate::entry;
 use rules::Entry;
@@ -20,6 +20,7 @@ impl Fabric<'_> {
     /// What port `p` of switch `s` leads to; where there is no such switch or port, nothing. A switch that the entry names is below 64.
     #[tactic(auto, using(crate::proofs::Reading::entry_leads), unfolding(rules::specs::Table::switches))]
     pub fn entry(&self, s: usize, p: usize) -> Entry
+        ensures is { result ≡ entry_at self.now.table.now s p }
         ensures leads { leads result ≡ far_of house self.now.table.now s p }
         ensures inside { Inside result }
     {

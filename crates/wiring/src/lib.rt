@@ -16,7 +16,7 @@ pub use fabric::Fabric;
 use rules::{Entry, Refusal};
 
 /// What the entry `x` is in a table of `n` switches.
-#[tactic(auto, unfolding(rules::specs::Table::kind))]
+#[tactic(auto, using(crate::proofs::Laws::kind_link, crate::proofs::Laws::kind_processor, crate::proofs::Laws::kind_none, crate::proofs::Laws::kind_low, crate::proofs::Laws::kind_high))]
 pub fn entry(x: u16, n: usize) -> Entry
     ensures { result ≡ kind house n x }
 {

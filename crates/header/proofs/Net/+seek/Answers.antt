@@ -3,6 +3,7 @@ use native.Mathlib.Nat.{le_refl}
 use native.Mathlib.Omega.{arith}
 use mathlib.Core.Path.{sym, ap, ◌∙◌}
 use borrow.Author.Rules.{rules}
+use Rattle.std.specs.Result.{result_ok}
 use Rattle.header.specs.Search.{next_choice}
 use Rattle.header.specs.declared.Choices.{Choices}
 use Rattle.header.proofs.Searching.{Known, Search, Memory, Finds, last-stage, start, turning, ended, full, deeper, beyond, taken, told-before, told-now, kept-now, held_same}
@@ -110,5 +111,6 @@ loop-word-preserved t c =
 pub returns-clause-is : goal.returns-clause-is
 returns-clause-is t c =
     let u = c.loop-word.invariant in
-    c.total.ensures
+    c.ok.ensures.value
+    ∙ ap result_ok c.total.ensures
     ∙ ended _ _ _ _ _ _ _ (known t (goal.at.returns-clause-is t c).At-loop-word) _ _ 256 (turning _ _ _ _ _ _ _ _ _ _ _ u.1 (sym c.in-None.ensures.steps.1) u.0) (le_refl 256)
