@@ -37,8 +37,8 @@ module _ (n : ℕ) (parts : List (ℕ × ℕ)) where
   packs-refusal e h = let l = number-some e in packs-refused (number e) (place e) n parts (λ z. omega arith) h
 
   pub packs-values : n ≡ laid ((8, 0) ∷ parts) → n ≡ packs 0 0 parts
-  unfolding packs
-  packs-values e = e
+  unfolding laid
+  packs-values e = packs-made 0 0 n parts refl (omega arith)
 
 -- ---- header issue over fields: what `read_rows` gave, and left in the table t
 

@@ -30,16 +30,15 @@ use Rattle.ways.proofs.Forward.{mask-none, onward-step}
 
 -- ---- one entry
 
--- a processor that stands there: none of them counts where the switch is not the last, and else the target alone
-module _ (d : ℕ) (last : Bool) (depth masks : List ℕ) (n : ℕ) where
-  module _ {e : Entry} where
-    pub ahead-early : {a : ℕ} → e ≡ Node a → last ≡ false → false ≡ ahead d last depth masks n (leads e)
-    unfolding ahead leads
-    ahead-early q h = rw (q, h)
+-- a processor that stands there: it counts at the last switch alone, and there the target alone
+module _ (d : ℕ) (last : Bool) (depth masks : List ℕ) (n : ℕ) {e : Entry} where
+  pub ahead-early : {a : ℕ} → e ≡ Node a → last ≡ false → false ≡ ahead d last depth masks n (leads e)
+  unfolding ahead leads
+  ahead-early q h = rw (q, h)
 
-    pub ahead_own : {a b : ℕ} → e ≡ Node a → b ≡ a → last ≡ true → eqb b d ≡ ahead d last depth masks n (leads e)
-    unfolding ahead leads
-    ahead_own q k h = rw (q, k, h)
+  pub ahead_own : {a b : ℕ} → e ≡ Node a → b ≡ a → last ≡ true → eqb b d ≡ ahead d last depth masks n (leads e)
+  unfolding ahead leads
+  ahead_own q k h = rw (q, k, h)
 
 -- ---- one switch
 

@@ -1,6 +1,5 @@
 -- What is read at a port of a switch: the entry that stands there, which says where the port leads, and names one of 64 switches where there are
--- no more.
--- Assumes nothing.
+-- no more. Assumes nothing.
 use Prim.Native.Nat.{ℕ, ◌+◌, ◌*◌, ◌/◌, ◌≤◌, ◌<◌}
 use native.Mathlib.Omega.{arith}
 use mathlib.Core.Path.{◌≡◌, refl, sym, ap, ◌∙◌}
@@ -14,7 +13,7 @@ use Rattle.rules.specs.declared.Entry.TheVariants.{Switch, Node, Nothing, Bad}
 use Rattle.rules.specs.Net.{switch, nothing}
 use Rattle.rules.specs.Table.{house, no_link, kind, kind_at, leads, switches, far_of}
 use Rattle.rules.proofs.SetLaws.{T_and, T_true}
-use Rattle.rules.proofs.Tables.{port-inside, far-inside, far_of-wired}
+use Rattle.rules.proofs.Tables.{port-inside, far_of-wired}
 use Rattle.std.proofs.lemmas.List.{get_or_default}
 use Rattle.wiring.specs.Entries.{Inside, entry_at}
 
@@ -38,7 +37,7 @@ module _ (t : List ℕ) (s p : ℕ) where
       at true e = let i = T_and (ltb s (switches t)) (ltb p 8) (T_true e) in absurd (n (ltb→lt s (switches t) i.0, ltb→lt p 8 i.1))
       at false e = refl
 
-  -- it leads where the port does
+  -- what stands at a port leads where the port does
   pub entry_at-leads : leads (entry_at t s p) ≡ far_of house t s p
   unfolding entry_at far_of leads
   entry_at-leads = at (ltb s (switches t) && ltb p 8)
@@ -47,20 +46,13 @@ module _ (t : List ℕ) (s p : ℕ) where
       at true = refl
       at false = refl
 
-  -- the entry of a port of a switch says where it leads
+  -- so does what is read there
   pub entry_leads : {e : Entry} → s < switches t → p < 8 → e ≡ kind house (length t / 8) (get_or t (8 * s + p) 0) → leads e ≡ far_of house t s p
-  unfolding kind_at switches
-  entry_leads l m q =
-      ap leads (q ∙ ap (kind house (length t / 8)) (get_or_default t (8 * s + p) 0 no_link (port-inside t s p l m))) ∙ sym (far-inside house t s p l m)
+  entry_leads l m q = ap leads (entry_is l m q) ∙ entry_at-leads
 
-  -- a port of a switch that there is not leads nowhere
+  -- and a port of a switch that there is not leads nowhere
   pub entry_none : ¬ ((s < switches t) × (p < 8)) → leads Nothing ≡ far_of house t s p
-  unfolding far_of leads
-  entry_none n = at (ltb s (switches t) && ltb p 8) refl
-    where
-      at : (b : Bool) → (ltb s (switches t) && ltb p 8) ≡ b → nothing ≡ cond b (leads (kind_at house t (8 * s + p))) nothing
-      at true e = let i = T_and (ltb s (switches t)) (ltb p 8) (T_true e) in absurd (n (ltb→lt s (switches t) i.0, ltb→lt p 8 i.1))
-      at false e = refl
+  entry_none n = ap leads (entry_missing n) ∙ entry_at-leads
 
   -- what an entry that is a link says of the port at which it was read
   module _ {v : ℕ} (read : leads (Switch v) ≡ far_of house t s p) where

@@ -7,7 +7,7 @@ use Rattle.rules.specs.declared.Entry.{Entry}
 use Rattle.rules.specs.declared.Entry.TheVariants.{Switch, Node, Nothing, Bad}
 use Rattle.rules.specs.Table.{house, kind_at, switches}
 
--- 01: "eight for each switch, switch 0 first, port 0 first"
+-- eight entries for each switch, switch 0 first, port 0 first
 unfoldable pub entry_at : List ℕ → ℕ → ℕ → Entry
 entry_at t s p = cond (ltb s (switches t) && ltb p 8) (kind_at house t (8 * s + p)) Nothing
 
