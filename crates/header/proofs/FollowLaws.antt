@@ -17,8 +17,7 @@ use Rattle.rules.specs.Table.{house, leads, far_of}
 use Rattle.rules.specs.Tries.{reach}
 use Rattle.rules.proofs.SetLaws.{eq-T, has-nothing, has-single}
 use Rattle.header.proofs.LeafLaws.{same-members, in-or, in-single}
-use Rattle.header.specs.Search.{Leaves}
-use Rattle.header.proofs.ScanLaws.{Left, met}
+use Rattle.header.proofs.ScanLaws.{TakesOut, Left, met}
 
 linked-in : (m u t : ℕ) → T (has t (bit_or m (2 ^ u))) ↔ (T (has t m) ⊎ (t ≡ u))
 linked-in m u t = (
@@ -26,43 +25,58 @@ linked-in m u t = (
   λ h. (in-or m (2 ^ u) t).1 (⊎_elim inl (λ e. inr (subst T (sym (has-single u t)) (eq-T t u e))) h),
 )
 
--- n is the set of the switches to which the members that are not left link by port p
-pub record Follows (far : ℕ → ℕ → Far) (p m rest n : ℕ) : Type 0 where
-  pub out : (t : ℕ) → T (has t n) → (u : ℕ) × T (has u m) × (T (has u rest) → ⊥) × (far u p ≡ switch t)
+-- n has each switch to which a member of m that is not left (in rest) links by port p, and none but those to which a member of m links that is not
+-- apart: with none apart it may be any member, with those left apart it is one met
+pub record Gathers (far : ℕ → ℕ → Far) (p m apart rest n : ℕ) : Type 0 where
+  pub out : (t : ℕ) → T (has t n) → (u : ℕ) × T (has u m) × (T (has u apart) → ⊥) × (far u p ≡ switch t)
   pub back : (t u : ℕ) → T (has u m) → (T (has u rest) → ⊥) → far u p ≡ switch t → T (has t n)
 
+-- n is the set of the switches to which the members that are not left link by port p
+abbrev pub Follows : (ℕ → ℕ → Far) → ℕ → ℕ → ℕ → ℕ → Type 0
+Follows far p m rest n = Gathers far p m rest rest n
+
+-- those apart once u is taken out: none that was not apart before, and not u
+abbrev pub Narrows : ℕ → ℕ → ℕ → Type 0
+Narrows apart u later = (v : ℕ) → T (has v later) → T (has v apart) × (v ≡ u → ⊥)
+
 module _ (far : ℕ → ℕ → Far) (p m : ℕ) where
-  pub follows-start : {rest : ℕ} → rest ≡ m → Follows far p m rest 0
-  follows-start {rest} e = record {
+  pub gathers-start : {apart rest : ℕ} → rest ≡ m → Gathers far p m apart rest 0
+  gathers-start {apart} {rest} e = record {
     out = λ t h. absurd (subst T (has-nothing t) h);
     back = λ t u k d. absurd (d (subst (λ (x : ℕ). T (has u x)) (sym e) k));
   }
 
-  module _ {rest u left n : ℕ} (l : Left m rest) (h : Leaves rest u left) (f : Follows far p m rest n) where
-    -- what was met before is not left now either
-    met-before : (t : ℕ) → T (has t n) → (v : ℕ) × T (has v m) × (T (has v left) → ⊥) × (far v p ≡ switch t)
-    met-before t k = let o = f.out t k in (o.0, o.1, λ k. o.2 ((h.others o.0).0 k).0, o.3)
+  pub follows-start : {rest : ℕ} → rest ≡ m → Follows far p m rest 0
+  follows-start e = gathers-start e
+
+  module _ {apart rest u left n : ℕ} (later : ℕ) (l : Left m rest) (h : TakesOut rest u left) (on : Narrows apart u later) (f : Gathers far p m apart rest n) where
+    -- what n has comes of a member that is not in later either
+    met-before : (t : ℕ) → T (has t n) → (v : ℕ) × T (has v m) × (T (has v later) → ⊥) × (far v p ≡ switch t)
+    met-before t k = let o = f.out t k in (o.0, o.1, λ k. o.2 (on o.0 k).0, o.3)
 
     -- the member met links to v
-    follows-link : (v : ℕ) → far u p ≡ switch v → Follows far p m left (bit_or n (2 ^ v))
+    follows-link : (v : ℕ) → far u p ≡ switch v → Gathers far p m later left (bit_or n (2 ^ v))
     follows-link v e = record {
-      out = λ t k. ⊎_elim (met-before t) (λ q. (u, l.inside u h.here, λ k. ((h.others u).0 k).1 refl, e ∙ ap switch (sym q))) ((linked-in n v t).0 k);
+      out = λ t k. ⊎_elim (met-before t) (λ q. (u, l.inside u h.here, λ k. (on u k).1 refl, e ∙ ap switch (sym q))) ((linked-in n v t).0 k);
       back = λ t j k d i. (linked-in n v t).1
           (⊎_elim (λ b. inl (f.back t j k b i)) (λ q. let i = subst (λ (x : ℕ). far x p ≡ switch t) q i in inr (cc)) (met h j d));
     }
 
     -- the member met has no link there
-    follows-none : ((t : ℕ) → far u p ≡ switch t → ⊥) → Follows far p m left n
+    follows-none : ((t : ℕ) → far u p ≡ switch t → ⊥) → Gathers far p m later left n
     follows-none e = record {
       out = met-before;
       back = λ t j k d i. ⊎_elim (λ b. f.back t j k b i) (λ q. absurd (e t (subst (λ (x : ℕ). far x p ≡ switch t) q i))) (met h j d);
     }
 
-  pub follows-all : {size rest n : ℕ} → Wired far size → rest ≡ 0 → Follows far p m rest n → n ≡ reach far size m (2 ^ p)
-  follows-all {size} {rest} {n} wired z f =
+  pub gathers-all : {size apart rest n : ℕ} → Wired far size → rest ≡ 0 → Gathers far p m apart rest n → n ≡ reach far size m (2 ^ p)
+  gathers-all {size} {apart} {rest} {n} wired z f =
       same-members n (reach far size m (2 ^ p))
       (λ t h. let o = f.out t h in (in-single far size wired m p t).1 (o.0, o.1, o.3))
       (λ t h. let o = (in-single far size wired m p t).0 h in f.back t o.0 o.1 (λ k. subst T (has-nothing o.0) (subst (λ (x : ℕ). T (has o.0 x)) z k)) o.2)
+
+  pub follows-all : {size rest n : ℕ} → Wired far size → rest ≡ 0 → Follows far p m rest n → n ≡ reach far size m (2 ^ p)
+  follows-all wired z f = gathers-all wired z f
 
 -- ---- e is the entry at port p of switch s
 
@@ -72,13 +86,17 @@ module _ (t : List ℕ) (s p : ℕ) {e : Entry} (read : leads e ≡ far_of house
     pub link-small : v < 64
     link-small = let l : u < 64 = subst Inside told small in omega arith
 
-    pub link-followed : {m rest left n after : ℕ} → Left m rest → Leaves rest s left → Follows (far_of house t) p m rest n → after ≡ bit_or n (1 * 2 ^ v % 2 ^ 64)
-        → Follows (far_of house t) p m left after
+    pub link-gathered : {m apart rest later left n after : ℕ} → Left m rest → TakesOut rest s left → Narrows apart s later → Gathers (far_of house t) p m apart rest n
+        → after ≡ bit_or n (1 * 2 ^ v % 2 ^ 64) → Gathers (far_of house t) p m later left after
     unfolding leads
-    link-followed {m} {rest} {left} {n} l met f e =
+    link-gathered {m} {apart} {rest} {later} {left} {n} l met on f e =
         let shift : 1 * 2 ^ v % 2 ^ 64 ≡ 2 ^ v = shl_exact {a = 1} 1 v 64 (lit< tt) (let k = link-small in omega arith) ∙ omega arith in
-        subst (λ (x : ℕ). Follows (far_of house t) p m left x) (sym (e ∙ ap (bit_or n) shift))
-        (follows-link (far_of house t) p m l met f v (sym read ∙ ap leads told ∙ ap switch (sym is)))
+        subst (λ (x : ℕ). Gathers (far_of house t) p m later left x) (sym (e ∙ ap (bit_or n) shift))
+        (follows-link (far_of house t) p m later l met on f v (sym read ∙ ap leads told ∙ ap switch (sym is)))
+
+    pub link-followed : {m rest left n after : ℕ} → Left m rest → TakesOut rest s left → Follows (far_of house t) p m rest n → after ≡ bit_or n (1 * 2 ^ v % 2 ^ 64)
+        → Follows (far_of house t) p m left after
+    link-followed l met f e = link-gathered l met (λ j. (met.others j).0) f e
 
   module _ (none : (u : ℕ) → e ≡ Switch u → ⊥) where
     no-link : (u : ℕ) → far_of house t s p ≡ switch u → ⊥
@@ -91,5 +109,9 @@ module _ (t : List ℕ) (s p : ℕ) {e : Entry} (read : leads e ≡ far_of house
         at Nothing h q = let z : ◌≡◌ {A = ℕ} 0 1 = cc in omega arith
         at Bad h q = let z : ◌≡◌ {A = ℕ} 0 1 = cc in omega arith
 
-    pub none-followed : {m rest left n after : ℕ} → Left m rest → Leaves rest s left → Follows (far_of house t) p m rest n → after ≡ n → Follows (far_of house t) p m left after
-    none-followed {m} {rest} {left} l met f e = subst (λ (x : ℕ). Follows (far_of house t) p m left x) (sym e) (follows-none (far_of house t) p m l met f no-link)
+    pub none-gathered : {m apart rest later left n after : ℕ} → Left m rest → TakesOut rest s left → Narrows apart s later → Gathers (far_of house t) p m apart rest n
+        → after ≡ n → Gathers (far_of house t) p m later left after
+    none-gathered {m} {apart} {rest} {later} {left} l met on f e = subst (λ (x : ℕ). Gathers (far_of house t) p m later left x) (sym e) (follows-none (far_of house t) p m later l met on f no-link)
+
+    pub none-followed : {m rest left n after : ℕ} → Left m rest → TakesOut rest s left → Follows (far_of house t) p m rest n → after ≡ n → Follows (far_of house t) p m left after
+    none-followed l met f e = none-gathered l met (λ j. (met.others j).0) f e

@@ -5,7 +5,7 @@ use native.Mathlib.Nat.{lt_of_le_of_lt}
 use native.Mathlib.Decide.{ℕ_discrete}
 use native.Mathlib.Omega.{arith}
 use mathlib.Core.Path.{◌≡◌, refl, sym, ◌∙◌, subst}
-use mathlib.Core.Logic.{◌⊎◌, inl, inr, ⊎_elim}
+use mathlib.Core.Logic.{◌⊎◌, inl, inr, ◌↔◌, ⊎_elim}
 use mathlib.Core.Bool.{true}
 use lib.Dec.{T, eqb→eq}
 use lib.Bits.{bit_and, and_le_l}
@@ -53,8 +53,18 @@ module _ (m : ℕ) (wide : m < 2 ^ 64) where
           let o = eqb→eq (n / 2 ^ s % 2) 1 (subst (λ (x : ℕ). T (has x n)) e h) in
           omega arith
 
+-- ---- a switch is taken out, the lowest or another: what the laws below ask of a turn, since no order matters to them
+
+-- s is a switch of the set m, and n has the others
+pub record TakesOut (m s n : ℕ) : Type 0 where
+  pub here : T (has s m)
+  pub others : (j : ℕ) → T (has j n) ↔ (T (has j m) × (j ≡ s → ⊥))
+
+pub takes_out : {m s n : ℕ} → Leaves m s n → TakesOut m s n
+takes_out h = record { here = h.here; others = h.others }
+
 -- fewer are left
-pub leaves_less : (m s n : ℕ) → Leaves m s n → n ≤ m → n < m
+pub leaves_less : (m s n : ℕ) → TakesOut m s n → n ≤ m → n < m
 leaves_less m s n h l = at (ℕ_discrete n m)
   where
     at : Dec (n ≡ m) → n < m
@@ -64,7 +74,7 @@ leaves_less m s n h l = at (ℕ_discrete n m)
 -- ---- what is left of a set
 
 -- a switch that is not left was taken out before, or is the one taken out now
-pub met : {m s n : ℕ} → Leaves m s n → (u : ℕ) → (T (has u n) → ⊥) → (T (has u m) → ⊥) ⊎ (u ≡ s)
+pub met : {m s n : ℕ} → TakesOut m s n → (u : ℕ) → (T (has u n) → ⊥) → (T (has u m) → ⊥) ⊎ (u ≡ s)
 met {m} {s} {n} h u out = at (ℕ_discrete u s)
   where
     at : Dec (u ≡ s) → (T (has u m) → ⊥) ⊎ (u ≡ s)
@@ -79,7 +89,7 @@ pub record Left (m rest : ℕ) : Type 0 where
 pub left_start : {m rest : ℕ} → m < 2 ^ 64 → rest ≡ m → Left m rest
 left_start l e = record { wide = l; inside = λ u h. subst (λ (x : ℕ). T (has u x)) e h }
 
-pub left_on : {m rest s n : ℕ} → Left m rest → Leaves rest s n → Left m n
+pub left_on : {m rest s n : ℕ} → Left m rest → TakesOut rest s n → Left m n
 left_on l h = record { wide = l.wide; inside = λ u k. l.inside u ((h.others u).0 k).0 }
 
 -- ---- the common ports
@@ -97,7 +107,7 @@ module _ (mask : ℕ → ℕ) (m : ℕ) where
     back = λ p l f. (in-set_of 8 (λ _. true) p).1 (l, tt);
   }
 
-  pub common_on : {rest s n ports : ℕ} → Left m rest → Leaves rest s n → CommonTo mask m rest ports → CommonTo mask m n (bit_and ports (mask s))
+  pub common_on : {rest s n ports : ℕ} → Left m rest → TakesOut rest s n → CommonTo mask m rest ports → CommonTo mask m n (bit_and ports (mask s))
   common_on {rest} {s} {n} {ports} l h c = record {
     out = λ p k. let i = T_and (has p ports) (has p (mask s)) (subst T (has-and p ports (mask s)) k) in
         let o = c.out p i.0 in

@@ -1,5 +1,5 @@
 use Rattle.header.proofs.LeafLaws.{member_lt}
-use Rattle.header.proofs.ScanLaws.{left_on, common_on}
+use Rattle.header.proofs.ScanLaws.{takes_out, left_on, common_on}
 use Rattle.header.proofs.Net.common_of.Goals as goal
 
 pub bounds-self-s : goal.bounds-self-s
@@ -10,4 +10,5 @@ bounds-self-s c =
 pub loop-s-preserved : goal.loop-s-preserved
 loop-s-preserved c =
     let left = c.loop-s.invariant.0 in
-    (left_on left c.in-Some.ensures.steps, common_on _ _ left c.in-Some.ensures.steps c.loop-s.invariant.1)
+    let step = takes_out c.in-Some.ensures.steps in
+    (left_on left step, common_on _ _ left step c.loop-s.invariant.1)

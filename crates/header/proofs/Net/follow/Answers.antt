@@ -2,7 +2,7 @@ use mathlib.Core.Path.{refl, ap}
 use Rattle.rules.specs.Table.{house}
 use Rattle.rules.proofs.Tables.{far_of-wired}
 use Rattle.header.specs.declared.Switches.{Switches}
-use Rattle.header.proofs.ScanLaws.{left_start, left_on}
+use Rattle.header.proofs.ScanLaws.{takes_out, left_start, left_on}
 use Rattle.header.proofs.FollowLaws.{follows-start, follows-all, link-followed, none-followed}
 use Rattle.header.proofs.Net.follow.Goals as goal
 
@@ -13,7 +13,7 @@ loop-s-init c =
 pub loop-s-preserved-in-Switch : goal.loop-s-preserved-in-Switch
 loop-s-preserved-in-Switch c =
     let met = c.loop-s.invariant in
-    let step = c.in-Some.ensures.steps in (
+    let step = takes_out c.in-Some.ensures.steps in (
       left_on met.0 step,
       link-followed _ _ _ c.entry.ensures.leads c.entry.ensures.inside c.in-Switch.is refl met.0 step met.1 refl,
     )
@@ -21,7 +21,7 @@ loop-s-preserved-in-Switch c =
 pub loop-s-preserved : goal.loop-s-preserved
 loop-s-preserved c =
     let met = c.loop-s.invariant in
-    let step = c.in-Some.ensures.steps in (
+    let step = takes_out c.in-Some.ensures.steps in (
       left_on met.0 step,
       none-followed _ _ _ c.entry.ensures.leads c.in_default.not-Switch met.0 step met.1 refl,
     )
